@@ -3,6 +3,9 @@
 
 mod machine;
 mod names;
+mod print;
 mod resolve;
+mod run;
 
 pub use machine::{Machine, MachineError, machine_of};
+pub use run::{OutError, RunEnd, print_run};

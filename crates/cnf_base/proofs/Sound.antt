@@ -219,9 +219,9 @@ refuted f steps v r t =
     let n : ℕ = length steps - 1 in
     let d : Line = record { clause = []; hints = [] } in
     let holds : clause_true v (get_or steps n d).clause ≡ true =
-    outcome_sound (f ++ clauses_of (take n steps)) (get_or steps n d).clause (get_or steps n d).hints v (r.lines n d (omega (arith, r.some)))
+    outcome_sound (f ++ clauses_of (take n steps)) (get_or steps n d).clause (get_or steps n d).hints v (r.lines n d (omega (arith, r.ends.some)))
     (formula_true-append v f (clauses_of (take n steps)) t (lines_hold v f steps r.lines t n (omega arith))) in
-    let empty : (get_or steps n d).clause ≡ [] = r.last d in
+    let empty : (get_or steps n d).clause ≡ [] = r.ends.last d in
     let gone : clause_true v (get_or steps n d).clause ≡ clause_true v [] = ap (clause_true v) empty in
     let none : true ≡ false = sym holds ∙ gone in
     cc

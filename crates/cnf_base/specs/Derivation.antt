@@ -68,8 +68,12 @@ abbrev pub AreAccepted : List (List Lit) → List Line → Type 0
 AreAccepted f steps = (i : ℕ) (d : Line) → i < length steps
     → outcome (f ++ clauses_of (take i steps)) (slice_index_or steps i d).clause (slice_index_or steps i d).hints ≡ accepted
 
+-- there is a last line, and it is the empty clause
+pub record EndsEmpty (steps : List Line) : Type 0 where
+  pub some : 0 < length steps
+  pub last : (d : Line) → (slice_index_or steps (length steps - 1) d).clause ≡ []
+
 -- the derivation is accepted, and its last line is the empty clause
 pub record IsRefutation (f : List (List Lit)) (steps : List Line) : Type 0 where
   pub lines : AreAccepted f steps
-  pub some : 0 < length steps
-  pub last : (d : Line) → (slice_index_or steps (length steps - 1) d).clause ≡ []
+  pub ends : EndsEmpty steps

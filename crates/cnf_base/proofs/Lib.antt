@@ -1,0 +1,3 @@
+pub mod VariableBounds
+pub mod Told
+pub mod Sound

@@ -1,0 +1,7 @@
+pub mod Meaning
+pub mod Step
+pub mod Built
+pub mod Rungs
+pub mod Climbs
+pub mod Choice
+pub mod Chosen

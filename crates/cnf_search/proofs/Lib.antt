@@ -1,0 +1,10 @@
+pub mod Accepted
+pub mod Traces
+pub mod Lines
+pub mod Ends
+pub mod Extends
+pub mod Fronts
+pub mod Steps
+pub mod Trying
+pub mod Whole
+pub mod Prefixes

@@ -1,0 +1,56 @@
+ghost use Rattle.std.specs.Prelude.{◌≡◌, ℕ, ◌+◌, ◌<◌, ◌≤◌, ◌++◌, length, IfOk, [], take, true};
+ghost use Rattle.cnf_base.specs.Clauses.{value_in};
+ghost use Rattle.cnf_search.specs.Trails.{values};
+ghost use Rattle.cnf_search.specs.Ended.{completed};
+ghost use Rattle.cnf_search.specs.Found.{Finds};
+
+use crate::trace::Trace;
+use crate::walk::{Step, Walk, attempt};
+use cnf_base::{Assignment, variables};
+use cnf_check::{Checker, Effort, Refutation};
+use cnf_gate::Circuit;
+use std::alloc::{AllocError, Global};
+
+/// What a search found.
+#[derive(Drop, Debug)]
+pub enum Found {
+    Solved(Assignment),
+    Refuted(Refutation),
+    Spent(Effort),
+}
+
+/// The values of the trail below `count`, and false where there is none.
+fn assignment(alloc: Global, trace: &Trace, count: u32) -> Result<Assignment, AllocError>
+    requires room { count ≤ trace.now.size }
+    requires few { count ≤ 2000000 }
+    ensures long { IfOk result (λ a. length a ≡ count) }
+    ensures values { IfOk result (λ a. (n : ℕ) → n < count → value_in a n ≡ completed (values trace.now.entries) n) }
+{
+    let mut list = Vec::new(alloc);
+    for var in 0..count {
+        list.push(trace.value(var))?;
+    }
+    Ok(Assignment::from_vec(list))
+}
+
+/// Looks for an assignment of the circuit's formula, and counts at most `budget` conflicts.
+pub fn search(alloc: Global, circuit: &Circuit, budget: u64) -> Result<Found, AllocError>
+    ensures { IfOk result (λ f. Finds circuit.now budget f) }
+{
+    let formula = circuit.formula();
+    let count = variables(formula);
+    let mut walk = Walk {
+        checker: Checker::new(alloc, formula)?,
+        trace: Trace::new(alloc, count)?,
+        count: 0,
+        budget,
+    };
+    match attempt(&mut walk, circuit, 0)? {
+        Step::Solved => Ok(Found::Solved(assignment(alloc, &walk.trace, count)?)),
+        Step::Spent => Ok(Found::Spent(walk.checker.effort())),
+        Step::Refuted(_) => match walk.checker.refutation() {
+            Ok(refutation) => Ok(Found::Refuted(refutation)),
+            Err(_) => unreachable!(),
+        },
+    }
+}

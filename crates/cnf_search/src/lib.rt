@@ -1,0 +1,11 @@
+//! The search for a solution of a circuit.
+#![tactic(auto)]
+
+mod answer;
+#[cfg(test)]
+mod tests;
+mod trace;
+mod unit;
+mod walk;
+
+pub use answer::{Found, search};

@@ -1,7 +1,6 @@
 //! Reads the tokens of a model into its tree.
 #![tactic(auto)]
 
-mod boxed;
 pub mod tree;
 
-pub use boxed::Boxed;
+pub use asm_list::Boxed;

@@ -3,7 +3,7 @@ ghost use Rattle.std.specs.Prelude.{◌≡◌, IfOk};
 use std::alloc::{AllocError, Global};
 use std::marker::Model;
 
-/// A value on the heap, seen as that value. A tree may hold its children so.
+/// A value that stands elsewhere, so that a type may hold itself. Contracts see it as that value.
 #[derive(Debug, Drop)]
 pub struct Boxed<T> {
     inner: Box<T>,
@@ -18,12 +18,14 @@ impl<T> Model for Boxed<T> {
 }
 
 impl<T> Boxed<T> {
+    /// The value.
     pub fn get(&self) -> &T
         ensures { result.now ≡ self.now }
     {
         &self.inner
     }
 
+    /// The value, taken out of its box.
     pub fn into_inner(self) -> T
         ensures { result ≡ self }
     {
@@ -33,7 +35,8 @@ impl<T> Boxed<T> {
 }
 
 impl<T: Drop> Boxed<T> {
-    pub fn new(alloc: Global, value: T) -> Result<Boxed<T>, AllocError>
+    /// A box of this value.
+    pub fn new(alloc: Global, value: T) -> Result<Self, AllocError>
         ensures { IfOk result (λ b. b ≡ value) }
     {
         Ok(Boxed {

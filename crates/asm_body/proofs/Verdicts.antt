@@ -1,0 +1,57 @@
+-- What the public call answers.
+use Rattle.std.proofs.Common.{◌≡◌, ℕ, ◌-◌, List, Result, Ok, Err, refl, subst, arith, length}
+use Rattle.std.proofs.lemmas.List.{length-map}
+use Rattle.asm_grammar.specs.declared.Stop.{Stop}
+use Rattle.asm_grammar.specs.declared.Stop.TheVariants as stop
+use Rattle.asm_grammar.specs.Text.{OneTree, IsRefused, IsTooDeep}
+use Rattle.asm_grammar.specs.Whole.{whole_at, GivesWhole}
+use Rattle.asm_grammar.proofs.Whole.{same_tree, only, found, refuses, too_deep}
+use Rattle.asm_lex.specs.declared.token.Token.{Token}
+use Rattle.asm_body.specs.declared.error.ParseError.TheVariants.{Memory}
+use Rattle.asm_body.specs.declared.lexeme.Lexeme.{Lexeme}
+use Rattle.asm_body.specs.declared.tree.RawUnit.{RawUnit}
+use Rattle.asm_body.specs.Language.{models, TokenText, body, unit}
+use Rattle.asm_body.specs.Reading.{limit}
+use Rattle.asm_body.specs.Seen.{all_seen, token_text, token_texts}
+use Rattle.asm_body.specs.Unit.{IsUnit, Explains, error_of, Counts}
+use Rattle.asm_body.proofs.Checks.{table, late, checked}
+
+abbrev whole_of : List TokenText → Result RawUnit Stop
+whole_of ws = whole_at models body unit limit ws
+
+pub one_unit : OneTree models body unit
+one_unit = same_tree models body unit table late checked
+
+module _ (text : List ℕ) (ts : List Token) (xs : List Lexeme) (same : all_seen xs ≡ token_texts text ts) where
+  abbrev given : (o : Result RawUnit Stop) → whole_of (all_seen xs) ≡ o → whole_of (token_texts text ts) ≡ o
+  given o e = subst (λ (ws : List TokenText). whole_of ws ≡ o) same e
+
+  counted : length (token_texts text ts) ≡ length ts
+  counted = length-map ts (token_text text)
+
+  pub unit_found : (y : RawUnit) → GivesWhole (Ok y) (whole_of (all_seen xs)) → IsUnit text ts y
+  unit_found y g = found models body unit table late checked limit (token_texts text ts) y (given (Ok y) g)
+
+  pub unit_only : (x y : RawUnit) → GivesWhole (Ok x) (whole_of (all_seen xs)) → IsUnit text ts y → x ≡ y
+  unit_only x y g s = let a = only models body unit table late checked limit (token_texts text ts) y s in let b = given (Ok x) g in cc (a, b)
+
+  pub only_memory : (y : RawUnit) (e : Stop) → GivesWhole (Err e) (whole_of (all_seen xs)) → IsUnit text ts y → error_of (length ts) e ≡ Memory
+  only_memory y stop.Memory g s = refl
+  only_memory y (stop.Syntax k) g s = let a = only models body unit table late checked limit (token_texts text ts) y s in let b = given (Err (stop.Syntax k)) (g (λ z. (cc (z)))) in absurd (cc (a, b))
+  only_memory y (stop.TooDeep k) g s = let a = only models body unit table late checked limit (token_texts text ts) y s in let b = given (Err (stop.TooDeep k)) (g (λ z. (cc (z)))) in absurd (cc (a, b))
+
+  pub counts : (e : Stop) → GivesWhole (Err e) (whole_of (all_seen xs)) → Counts (length ts) e
+  counts stop.Memory g = tt
+  counts (stop.Syntax k) g = let r = refuses models body unit table late checked limit (token_texts text ts) k (given (Err (stop.Syntax k)) (g (λ z. (cc (z))))) in omega (arith, r.counted, counted)
+  counts (stop.TooDeep k) g = let r = too_deep models body unit table late checked limit (token_texts text ts) k (given (Err (stop.TooDeep k)) (g (λ z. (cc (z))))) in omega (arith, r.counted, counted)
+
+  pub explains : (e : Stop) → GivesWhole (Err e) (whole_of (all_seen xs)) → Explains text ts (error_of (length ts) e)
+  explains stop.Memory g = tt
+  explains (stop.Syntax left) g =
+      let r = refuses models body unit table late checked limit (token_texts text ts) left (given (Err (stop.Syntax left)) (g (λ z. (cc (z))))) in
+      let i : r.k ≡ length ts - left = omega (arith, r.counted, counted) in
+      subst (λ (k : ℕ). IsRefused models body unit limit (token_texts text ts) k) i r.refused
+  explains (stop.TooDeep left) g =
+      let r = too_deep models body unit table late checked limit (token_texts text ts) left (given (Err (stop.TooDeep left)) (g (λ z. (cc (z))))) in
+      let i : r.k ≡ length ts - left = omega (arith, r.counted, counted) in
+      subst (λ (k : ℕ). IsTooDeep models body unit limit (token_texts text ts) k) i r.deep

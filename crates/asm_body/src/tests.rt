@@ -1,12 +1,8 @@
-use crate::tree::{RawRuleKind, RawTermKind, RawUnit};
+use crate::tree::RawUnit;
 use crate::{ParseError, unit};
 use asm_lex::lex;
-use std::alloc::Global;
+use std::alloc::{AllocError, Global};
 use std::test::Fail;
-
-const FRONT: &str = "asm t signature: definitions: main rule r_Main = ";
-
-const BACK: &str = " default init s0:";
 
 /// The unit that the text is; a text that has no tokens stands for one that is refused at once.
 fn read(alloc: Global, text: &str) -> Result<RawUnit, ParseError> {
@@ -19,84 +15,58 @@ fn read(alloc: Global, text: &str) -> Result<RawUnit, ParseError> {
     }
 }
 
-/// A model whose main rule is `par` so many times in itself.
-fn nested(alloc: Global, levels: usize) -> Result<String, Fail> {
-    let mut text = String::from_str(alloc, FRONT)?;
+/// A model with this main rule, so many times in a `par`.
+fn model(alloc: Global, main: &str, levels: usize) -> Result<String, AllocError> {
+    let mut text = String::from_str(alloc, "asm t signature: definitions: main rule r_Main = ")?;
     for _ in 0..levels {
         text.push_str("par ")?;
     }
-    text.push_str("skip")?;
+    text.push_str(main)?;
     for _ in 0..levels {
         text.push_str(" endpar")?;
     }
-    text.push_str(BACK)?;
+    text.push_str(" default init s0:")?;
     Ok(text)
+}
+
+fn refusal(alloc: Global, main: &str, levels: usize) -> Result<Option<ParseError>, AllocError> {
+    let text = model(alloc, main, levels)?;
+    Ok(read(alloc, &text).err())
 }
 
 #[test]
 fn units(rt: HostRuntime) -> Result<(), Fail> {
-    let rows: [(&str, Option<ParseError>); 14] = [
-        ("skip", None),
-        ("x := undef", None),
-        ("par x := y y := x endpar", None),
-        ("if x then skip endif", None),
-        ("if x then x := false else if y then skip endif endif", None),
-        ("", Some(ParseError::Syntax(10))),
-        ("x := skip", Some(ParseError::Syntax(12))),
-        ("x := Boolean", Some(ParseError::Syntax(12))),
-        ("r_x := true", Some(ParseError::Syntax(10))),
-        ("term := true", None),
-        ("seq := true", Some(ParseError::Syntax(10))),
-        ("par endpar", Some(ParseError::Syntax(11))),
-        ("par x := y y := x", Some(ParseError::Syntax(17))),
-        ("if x then skip else endif", Some(ParseError::Syntax(15))),
-    ];
-    for (main, wanted) in rows.iter() {
-        let text = format!(in rt.alloc(); "{FRONT}{main}{BACK}")?;
-        assert_eq!(rt; read(rt.alloc(), &text).err(), *wanted, "{main}");
-    }
-    for (text, k) in [
-        ("", 0u32),
-        ("asm", 1),
-        ("module t", 0),
-        ("asm t signature: x", 4),
+    for main in [
+        "skip",
+        "x := undef",
+        "par x := y y := x endpar",
+        "if x then skip else skip endif",
+        "term := true",
     ]
     .iter()
     {
+        assert_eq!(rt; refusal(rt.alloc(), main, 0)?, None);
+    }
+    let refused = [
+        ("", 10u32),
+        ("x := skip", 12),
+        ("x := Boolean", 12),
+        ("r_x := true", 10),
+        ("seq := true", 10),
+        ("par endpar", 11),
+        ("par x := y y := x", 17),
+        ("if x then skip else endif", 15),
+    ];
+    for (main, token) in refused.iter() {
         assert_eq!(rt;
-            read(rt.alloc(), text).err(),
-            Some(ParseError::Syntax(*k)),
-            "{text}"
+            refusal(rt.alloc(), main, 0)?,
+            Some(ParseError::Syntax(*token))
         );
     }
-    assert_eq!(rt; read(rt.alloc(), &nested(rt.alloc(), 64)?).err(), None);
+    assert_eq!(rt; refusal(rt.alloc(), "skip", 64)?, None);
     assert_eq!(rt;
-        read(rt.alloc(), &nested(rt.alloc(), 65)?).err(),
+        refusal(rt.alloc(), "skip", 65)?,
         Some(ParseError::TooDeep(74))
     );
-    Ok(())
-}
-
-#[test]
-fn trees(rt: HostRuntime) -> Result<(), Fail> {
-    let text =
-        "asm par signature: controlled x : Boolean definitions: main rule r_ = if x then x := true endif default init if: function x = undef";
-    let unit = read(rt.alloc(), text).ok().ok_or("no unit")?;
-    assert_eq!(rt; unit.name.text(), "par");
-    assert_eq!(rt; unit.main.text(), "r_");
-    assert_eq!(rt; unit.functions.len(), 1);
-    assert_eq!(rt; unit.initials.len(), 1);
-    assert_eq!(rt; unit.rule.at, 70);
-    assert!(rt; matches!(&unit.rule.kind, RawRuleKind::If(_, _, _)));
-    if let RawRuleKind::If(guard, holds, fails) = &unit.rule.kind {
-        assert_eq!(rt; (guard.at, guard.first.text()), (73, "x"));
-        assert_eq!(rt; (holds.get().at, fails.get().at), (80, 70));
-        assert!(rt; matches!(&holds.get().kind, RawRuleKind::Update(_, _)));
-        assert!(rt; matches!(&fails.get().kind, RawRuleKind::Skip));
-    }
-    for initial in unit.initials.slice() {
-        assert_eq!(rt; initial.name.text(), "x");
-        assert!(rt; matches!(&initial.value.kind, RawTermKind::Undef));
-    }
     Ok(())
 }

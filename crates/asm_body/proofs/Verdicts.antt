@@ -1,13 +1,16 @@
 -- What the public call answers.
-use Rattle.std.proofs.Common.{◌≡◌, ℕ, ◌-◌, List, Result, Ok, Err, refl, subst, arith, length}
+use Rattle.std.proofs.Common.{◌≡◌, ◌≢◌, ◌⊎◌, inl, inr, ℕ, ◌-◌, List, ◌++◌, ◌∷◌, Result, Ok, Err, refl, ap, ◌∙◌, subst, arith, length, length-append}
 use Rattle.std.proofs.lemmas.List.{length-map}
 use Rattle.asm_grammar.specs.declared.Stop.{Stop}
 use Rattle.asm_grammar.specs.declared.Stop.TheVariants as stop
 use Rattle.asm_grammar.specs.Text.{OneTree, IsRefused, IsTooDeep}
 use Rattle.asm_grammar.specs.Whole.{whole_at, GivesWhole}
-use Rattle.asm_grammar.proofs.Whole.{same_tree, only, found, refuses, too_deep}
+use Rattle.asm_grammar.specs.Grammar.{tokens}
+use Rattle.asm_grammar.proofs.Whole.{same_tree, only, found, refuses, too_deep, length-tokens}
+use Rattle.asm_grammar.proofs.Exact.{refused_is_read, deep_is_read}
 use Rattle.asm_lex.specs.declared.token.Token.{Token}
-use Rattle.asm_body.specs.declared.error.ParseError.TheVariants.{Memory}
+use Rattle.asm_body.specs.declared.error.ParseError.{ParseError}
+use Rattle.asm_body.specs.declared.error.ParseError.TheVariants.{Memory, Syntax, TooDeep}
 use Rattle.asm_body.specs.declared.lexeme.Lexeme.{Lexeme}
 use Rattle.asm_body.specs.declared.tree.RawUnit.{RawUnit}
 use Rattle.asm_body.specs.Language.{models, TokenText, body, unit}
@@ -55,3 +58,26 @@ module _ (text : List ℕ) (ts : List Token) (xs : List Lexeme) (same : all_seen
       let r = too_deep models body unit table late checked limit (token_texts text ts) left (given (Err (stop.TooDeep left)) (g (λ z. (cc (z))))) in
       let i : r.k ≡ length ts - left = omega (arith, r.counted, counted) in
       subst (λ (k : ℕ). IsTooDeep models body unit limit (token_texts text ts) k) i r.deep
+
+  -- what the public call makes of what was read
+  abbrev pub answers : ParseError → Result RawUnit Stop → Type 0
+  answers e (Ok y) = ⊥
+  answers e (Err f) = (error_of (length ts) f ≡ Memory) ⊎ (error_of (length ts) f ≡ e)
+
+  cause_of : (f : Stop) (e : ParseError) → error_of (length ts) f ≡ e → (f ≡ stop.Memory → ⊥) → whole_of (token_texts text ts) ≡ Err f → (r : Result RawUnit Stop) → GivesWhole r (whole_of (all_seen xs)) → answers e r
+  cause_of f e m n h (Ok y) g = let b = given (Ok y) g in absurd (cc (h, b))
+  cause_of f e m n h (Err stop.Memory) g = inl refl
+  cause_of f e m n h (Err (stop.Syntax k)) g = let b = given (Err (stop.Syntax k)) (g (λ z. (cc (z)))) in let q : stop.Syntax k ≡ f = cc (h, b) in inr (ap (error_of (length ts)) q ∙ m)
+  cause_of f e m n h (Err (stop.TooDeep k)) g = let b = given (Err (stop.TooDeep k)) (g (λ z. (cc (z)))) in let q : stop.TooDeep k ≡ f = cc (h, b) in inr (ap (error_of (length ts)) q ∙ m)
+
+  -- a cause has its answer
+  pub refuses_with : (r : Result RawUnit Stop) → GivesWhole r (whole_of (all_seen xs)) → (e : ParseError) → e ≢ Memory → Explains text ts e → answers e r
+  refuses_with r g (Syntax k) ne x = cause_of (stop.Syntax (length (token_texts text ts) - k)) (Syntax k) (ap Syntax (left_of k x.place x.same)) (λ z. (cc (z))) (refused_is_read models body unit table late checked limit (token_texts text ts) k x) r g
+    where
+      left_of : (k : ℕ) → k ≡ length x.front → token_texts text ts ≡ tokens models x.front ++ x.rest → length ts - (length (token_texts text ts) - k) ≡ k
+      left_of k p e = omega (arith, p, counted, ap length e, length-append (tokens models x.front) x.rest, length-tokens models x.front)
+  refuses_with r g (TooDeep k) ne x = cause_of (stop.TooDeep (length (token_texts text ts) - k)) (TooDeep k) (ap TooDeep (left_of k x.place x.same)) (λ z. (cc (z))) (deep_is_read models body unit table late checked limit (token_texts text ts) k x) r g
+    where
+      left_of : (k : ℕ) → k ≡ length x.front → token_texts text ts ≡ tokens models x.front ++ x.deep.token ∷ x.rest → length ts - (length (token_texts text ts) - k) ≡ k
+      left_of k p e = omega (arith, p, counted, ap length e, length-append (tokens models x.front) (x.deep.token ∷ x.rest), length-tokens models x.front)
+  refuses_with r g Memory ne x = absurd (ne refl)

@@ -1,5 +1,5 @@
 -- What it is to be a unit, and why tokens are none.
-use Rattle.std.specs.Prelude.{◌≡◌, ℕ, ◌-◌, ◌≤◌, List, Result, Ok, Err}
+use Rattle.std.specs.Prelude.{◌≡◌, ◌⊎◌, ℕ, ◌-◌, ◌≤◌, List, Result, Ok, Err}
 use Rattle.asm_grammar.specs.declared.Stop.{Stop}
 use Rattle.asm_grammar.specs.declared.Stop.TheVariants as stop
 use Rattle.asm_grammar.specs.Text.{IsText, IsRefused, IsTooDeep}
@@ -24,6 +24,11 @@ Explains text ts Memory = Unit {0}
 abbrev pub AgreesWith : RawUnit → Result RawUnit ParseError → Type 0
 AgreesWith y (Ok x) = x ≡ y
 AgreesWith y (Err e) = e ≡ Memory
+
+-- The answer is that error, or memory ran out.
+abbrev pub RefusesWith : ParseError → Result RawUnit ParseError → Type 0
+RefusesWith e (Ok x) = ⊥
+RefusesWith e (Err f) = (f ≡ Memory) ⊎ (f ≡ e)
 
 -- where reading stopped in so many tokens
 abbrev pub error_of : ℕ → Stop → ParseError

@@ -1,11 +1,13 @@
 //! The call that reads a unit.
 
-ghost use Rattle.std.specs.Prelude.{◌≡◌, ◌^◌, ◌<◌, length, Ok, IfOk, IfErr};
+ghost use Rattle.std.specs.Prelude.{◌≡◌, ◌≢◌, ◌^◌, ◌<◌, length, Ok, IfOk, IfErr};
 ghost use Rattle.asm_lex.specs.Cut.{cut};
 ghost use Rattle.asm_grammar.specs.Text.{OneTree};
 ghost use Rattle.asm_body.specs.Language as language;
 ghost use Rattle.asm_body.specs.Language.{models, body};
-ghost use Rattle.asm_body.specs.Unit.{IsUnit, AgreesWith, Explains, Counts, error_of};
+ghost use Rattle.asm_body.specs.declared.error.ParseError.{ParseError};
+ghost use Rattle.asm_body.specs.declared.error.ParseError.TheVariants.{Memory};
+ghost use Rattle.asm_body.specs.Unit.{IsUnit, AgreesWith, Explains, RefusesWith, Counts, error_of};
 
 use crate::error::ParseError;
 use crate::lexemes::lexemes;
@@ -40,6 +42,8 @@ pub fn unit(alloc: Global, text: &[u8], tokens: &[Token]) -> Result<RawUnit, Par
     ensures only { (y : RawUnit) → IsUnit text.now tokens.now y → AgreesWith y result }
     // An error is at the first token with which no unit goes on, or the first that nests too deep.
     ensures refused { IfErr result (λ e. Explains text.now tokens.now e) }
+    // Where there is such a token, that is the error, unless memory runs out.
+    ensures refuses { (e : ParseError) → e ≢ Memory → Explains text.now tokens.now e → RefusesWith e result }
 {
     let lexemes = lexemes(alloc, text, tokens)?;
     match whole(alloc, &lexemes) {

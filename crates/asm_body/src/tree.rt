@@ -1,7 +1,6 @@
 //! The trees of what is read. Each place is that of a byte of the text, counted from 0.
 
-use crate::Boxed;
-use asm_list::{Listed, Name};
+use asm_list::{Boxed, Listed, Name};
 
 /// A term at the byte of its first token, with that token's text.
 #[derive(Debug, Drop)]

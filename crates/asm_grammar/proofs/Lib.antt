@@ -6,5 +6,7 @@ pub mod Complete
 pub mod Public
 pub mod Depths
 pub mod Whole
+pub mod Deep
+pub mod Exact
 pub mod Entering
 pub mod Loops

@@ -1,0 +1,10 @@
+pub mod Sets
+pub mod Theory
+pub mod Judged
+pub mod Levels
+pub mod Complete
+pub mod Public
+pub mod Depths
+pub mod Whole
+pub mod Entering
+pub mod Loops

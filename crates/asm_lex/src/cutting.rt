@@ -1,0 +1,36 @@
+//! The tokens of a text.
+
+ghost use Rattle.std.specs.Prelude.{◌≡◌, ◌≤◌, length};
+ghost use Rattle.asm_lex.specs.Cut.{cut, GivesCut};
+
+use crate::error::LexError;
+use crate::piece::{Piece, piece_at};
+use crate::token::{Token, Tokens};
+use asm_list::Listed;
+use std::alloc::Global;
+
+/// The tokens of the text, each the longest at its place. Where a byte begins neither a token nor
+/// what separates tokens, the first such byte is the error.
+pub fn lex(alloc: Global, text: &[u8]) -> Result<Tokens, LexError>
+    requires { length text.now ≤ 1048576 }
+    ensures { GivesCut result (cut text.now) }
+{
+    let mut tokens = Listed::new(alloc);
+    let mut at = 0usize;
+    'pieces: while at < text.len() {
+        match piece_at(text, at) {
+            None => return Err(LexError::BadByte(at as u32)),
+            Some((length, Piece::Gap)) => at += length,
+            Some((length, Piece::Token(kind))) => {
+                let to = at + length;
+                tokens.push(Token {
+                    kind,
+                    from: at as u32,
+                    to: to as u32,
+                })?;
+                at = to;
+            }
+        }
+    }
+    Ok(tokens)
+}

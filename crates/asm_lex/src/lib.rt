@@ -1,0 +1,13 @@
+//! Cuts a text into tokens.
+#![tactic(auto)]
+
+mod cutting;
+mod error;
+mod piece;
+#[cfg(test)]
+mod tests;
+mod token;
+
+pub use cutting::lex;
+pub use error::LexError;
+pub use token::{Kind, Token, Tokens};

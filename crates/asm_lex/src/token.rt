@@ -1,0 +1,20 @@
+//! Tokens.
+
+use asm_list::Listed;
+
+#[derive(Clone, Copy, Debug, PartialEq, Eq)]
+pub enum Kind {
+    Word,
+    Symbol,
+}
+
+/// A token of a text: the bytes from the place `from` up to, and without, the place `to`.
+#[derive(Clone, Copy, Debug, PartialEq, Eq)]
+pub struct Token {
+    pub kind: Kind,
+    pub from: u32,
+    pub to: u32,
+}
+
+/// The tokens of a text, in its order.
+pub type Tokens = Listed<Token>;

@@ -1,0 +1,4 @@
+pub mod Machine
+pub mod Printed
+pub mod Printing
+pub mod Resolved

@@ -1,0 +1,105 @@
+//! The machine of a unit.
+ghost use Rattle.std.specs.Prelude.{◌≡◌, IfOk, IsErrOf, Some, None, map};
+ghost use Rattle.boolean_run.specs.Machine as spec;
+
+use crate::names::{are_declared, are_distinct, are_initials_distinct, find_initial};
+use crate::resolve::rule_of;
+use asm_body::tree::{RawInitial, RawTermKind, RawUnit};
+use asm_fire::{Rule, Value};
+use asm_list::{Listed, Name};
+use std::alloc::{AllocError, Global};
+
+/// The greatest number of functions of a model.
+const MOST_FUNCTIONS: usize = 4096;
+
+/// A machine whose functions are all controlled and Boolean. A location is the place of its function.
+#[derive(Drop)]
+pub struct Machine {
+    pub functions: Listed<Name>,
+    /// The initial value of each location.
+    pub initial: Listed<Value>,
+    pub main: Rule,
+}
+
+/// Why there is no machine.
+#[derive(Clone, Copy, Debug)]
+pub enum MachineError {
+    /// A function is declared twice, has two initial values or isn't declared, or there are more than 4,096.
+    NotBuilt,
+    Memory,
+}
+
+impl From<AllocError> for MachineError {
+    ghost use Rattle.boolean_run.specs.declared.machine.MachineError.TheVariants.{Memory};
+
+    ghost from_gives = { λ _ e. e ≡ Memory };
+
+    fn from(_error: AllocError) -> MachineError {
+        MachineError::Memory
+    }
+}
+
+/// The machine of a unit.
+pub fn machine_of(alloc: Global, unit: RawUnit) -> Result<Machine, MachineError>
+    ensures ok { IfOk result (λ machine. spec.machine_of unit ≡ Some machine) }
+    ensures not_built { IsErrOf result MachineError.NotBuilt → spec.machine_of unit ≡ None }
+{
+    if !is_sound(&unit) {
+        return Err(MachineError::NotBuilt);
+    }
+    let main = rule_of(alloc, unit.functions.slice(), &unit.rule)?;
+    let initial = initial_values(alloc, unit.functions.slice(), unit.initials.slice())?;
+    Ok(Machine {
+        functions: unit.functions,
+        initial,
+        main,
+    })
+}
+
+/// Whether no name stands where it may not, and there are not too many functions.
+fn is_sound(unit: &RawUnit) -> bool
+    ensures { result ≡ spec.is_sound unit.now }
+{
+    let names = unit.functions.slice();
+    let initials = unit.initials.slice();
+    names.len() <= MOST_FUNCTIONS
+        && are_distinct(names)
+        && are_initials_distinct(initials)
+        && are_declared(names, initials)
+}
+
+/// The initial value of each function.
+fn initial_values(
+    alloc: Global,
+    names: &[Name],
+    initials: &[RawInitial],
+) -> Result<Listed<Value>, AllocError>
+    ensures { IfOk result (λ values. values ≡ map (spec.initial_of initials.now) names.now) }
+{
+    let mut values = Listed::new(alloc);
+    'names: for name in names {
+        let value = initial_value(initials, name);
+        values.push(value)?;
+    }
+    Ok(values)
+}
+
+/// The initial value of the function of this name.
+fn initial_value(initials: &[RawInitial], name: &Name) -> Value
+    ensures { result ≡ spec.initial_of initials.now name.now }
+{
+    match find_initial(initials, name) {
+        None => Value::Undef,
+        Some(initial) => constant_of(&initial.value.kind),
+    }
+}
+
+/// The value of a constant.
+fn constant_of(kind: &RawTermKind) -> Value
+    ensures { result ≡ spec.constant_of kind.now }
+{
+    match kind {
+        RawTermKind::Truth(truth) => Value::Bool(*truth),
+        RawTermKind::Undef | RawTermKind::Read(_) => Value::Undef,
+    }
+}

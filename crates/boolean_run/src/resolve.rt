@@ -1,0 +1,81 @@
+//! Rules over locations.
+ghost use Rattle.std.specs.Prelude.{◌≡◌, map};
+ghost use Rattle.boolean_run.specs.Machine as spec;
+ghost use Rattle.boolean_run.specs.Resolved.{Resolves};
+
+use crate::machine::MachineError;
+use crate::names;
+use asm_body::tree::{RawRule, RawRuleKind, RawTerm, RawTermKind};
+use asm_fire::{Rule, Term, Value};
+use asm_list::{Boxed, Listed, Name};
+use std::alloc::Global;
+
+/// The location of the function of this name.
+fn place_of(names: &[Name], name: &Name) -> Result<u32, MachineError>
+    ensures { Resolves result (spec.place_of names.now name.now) }
+{
+    match names::place_of(names, name) {
+        None => Err(MachineError::NotBuilt),
+        Some(place) => match u32::try_from(place) {
+            Ok(place) => Ok(place),
+            Err(_) => Err(MachineError::Memory),
+        },
+    }
+}
+
+/// The term over locations.
+fn term_of(names: &[Name], term: &RawTerm) -> Result<Term, MachineError>
+    ensures { Resolves result (spec.term_of names.now term.now) }
+{
+    match &term.kind {
+        RawTermKind::Truth(truth) => Ok(Term::Constant(Value::Bool(*truth))),
+        RawTermKind::Undef => Ok(Term::Constant(Value::Undef)),
+        RawTermKind::Read(name) => {
+            let place = place_of(names, name)?;
+            Ok(Term::Read(place))
+        }
+    }
+}
+
+/// The rule over locations.
+#[cycle(rule)]
+pub fn rule_of(alloc: Global, names: &[Name], rule: &RawRule) -> Result<Rule, MachineError>
+    ensures { Resolves result (spec.rule_of names.now rule.now) }
+{
+    match &rule.kind {
+        RawRuleKind::Skip => Ok(Rule::Skip),
+        RawRuleKind::Update(name, term) => {
+            let place = place_of(names, name)?;
+            let term = term_of(names, term)?;
+            Ok(Rule::Update(place, term))
+        }
+        RawRuleKind::Par(parts) => {
+            let parts = rules_of(alloc, names, parts.slice())?;
+            Ok(Rule::Par(parts))
+        }
+        RawRuleKind::If(guard, holds, fails) => {
+            let guard = term_of(names, guard)?;
+            let holds = rule_of(alloc, names, holds.get())?;
+            let fails = rule_of(alloc, names, fails.get())?;
+            Ok(Rule::If(
+                rule.at,
+                guard,
+                Boxed::new(alloc, holds)?,
+                Boxed::new(alloc, fails)?,
+            ))
+        }
+    }
+}
+
+/// The rules over locations, in their order.
+#[cycle(rule)]
+fn rules_of(alloc: Global, names: &[Name], rules: &[RawRule]) -> Result<Listed<Rule>, MachineError>
+    ensures { Resolves result (spec.each_of (map (spec.rule_of names.now) rules.now)) }
+{
+    let mut parts = Listed::new(alloc);
+    'parts: for rule in rules {
+        let part = rule_of(alloc, names, rule)?;
+        parts.push(part)?;
+    }
+    Ok(parts)
+}

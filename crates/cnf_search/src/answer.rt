@@ -17,8 +17,11 @@ use std::alloc::{AllocError, Global};
 /// What a search found.
 #[derive(Drop, Debug)]
 pub enum Found {
+    /// An assignment that satisfies the circuit's formula.
     Solved(Assignment),
+    /// A refutation of the circuit's formula.
     Refuted(Refutation),
+    /// The lines of as many conflicts as the budget allows. There are more choices of one literal per group than it.
     Spent(Effort),
 }
 
@@ -48,6 +51,9 @@ fn walk_through(alloc: Global, walk: &mut Walk, circuit: &Circuit) -> Result<Ste
 }
 
 /// Looks for an assignment of the circuit's formula, and counts at most `budget` conflicts.
+///
+/// It takes the groups and the literals of a group in their order, propagates after each decision, and goes back by one
+/// decision after a conflict. It calls itself once for each group that is decided.
 pub fn search(alloc: Global, circuit: &Circuit, budget: u64) -> Result<Found, AllocError>
     ensures { IfOk result (λ f. Finds circuit.now budget f) }
 {

@@ -8,3 +8,6 @@ pub mod Steps
 pub mod Trying
 pub mod Whole
 pub mod Prefixes
+pub mod Settled
+pub mod Named
+pub mod Visits

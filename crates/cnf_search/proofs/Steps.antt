@@ -1,5 +1,5 @@
 -- The steps of the walk.
-use Rattle.std.proofs.Common.{◌≡◌, ℕ, ◌+◌, ◌*◌, ◌<◌, ◌≤◌, suc, zero, List, [], ◌∷◌, ◌++◌, length, take, drop, get_or, slice_get, arith, subst, sym, ◌∙◌, Some, None, Bool, true, false, eqb, ◌&&◌, ◌||◌, refl, ap, append_assoc}
+use Rattle.std.proofs.Common.{◌≡◌, ℕ, ◌+◌, ◌*◌, ◌-◌, ◌<◌, ◌≤◌, suc, zero, List, [], ◌∷◌, ◌++◌, length, take, drop, get_or, slice_get, arith, subst, sym, ◌∙◌, Some, None, Bool, true, false, eqb, ◌&&◌, ◌||◌, refl, ap, append_assoc}
 use Rattle.std.specs.Prelude.{Result, Ok, Err, IfOk}
 use Rattle.std.specs.List.{list_any, list_all}
 use Rattle.cnf_base.specs.declared.lit.Lit.{Lit}
@@ -202,6 +202,13 @@ choices_next gs d h f = grow (length (get_or gs d [])) (choices (drop (d + 1) gs
   where
     grow : (a b c : ℕ) → 0 < a → c ≡ a * b → b ≤ c
     grow a b c h e = grind arith
+
+pub choices_later : (gs : List (List Lit)) (d e : ℕ) → d ≤ e → e ≤ length gs → list_all is_filled gs ≡ true → choices (drop e gs) ≤ choices (drop d gs)
+choices_later gs d e h k f = go (e - d) d (omega arith)
+  where
+    go : (n d : ℕ) → d + n ≡ e → choices (drop e gs) ≤ choices (drop d gs)
+    go zero d j = let same : d ≡ e = omega arith in omega (arith, ap (λ (m : ℕ). choices (drop m gs)) same)
+    go (suc n) d j = omega (arith, go n (d + 1) (omega arith), choices_next gs d (omega arith) f)
 
 pub decided_next : (p q : Partial) (gs : List (List Lit)) (d : ℕ) → Extends p q → d < length gs → is_decided p (take d gs) ≡ true
     → list_any (is_true q) (get_or gs d []) ≡ true → is_decided q (take (d + 1) gs) ≡ true

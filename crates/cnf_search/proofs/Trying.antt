@@ -21,9 +21,10 @@ use Rattle.cnf_search.specs.Walks.{known, IsFit, IsMoved, Adds, IsSolved, IsRefu
 use Rattle.cnf_search.specs.declared.walk.Walk.{Walk}
 use Rattle.cnf_search.specs.declared.walk.Step.{Step}
 use Rattle.cnf_search.specs.declared.walk.Step.TheVariants.{Solved, Refuted, Spent}
-use Rattle.cnf_search.proofs.Traces.{after_push, Grows-push, take_all}
+use Rattle.cnf_search.proofs.Traces.{after_push, Grows-push, Grows-none, take_all}
 use Rattle.cnf_search.proofs.Ends.{quiet_solved}
 use Rattle.cnf_search.proofs.Extends.{Extends, extends_grows, keeps_false, line_of-grows}
+use Rattle.cnf_search.proofs.Visits.{settled_grown, grows_long, quiet_late}
 use Rattle.cnf_search.proofs.Steps.{with_trace, Refuted-adds, Explores-settled, Left-refuted, Solved-decide, Spent-decide, choices_drop}
 
 -- a walk whose entries alone differ is the old one with another trail
@@ -96,6 +97,31 @@ pub none_by : (x : Option Bool) → is_none x ≡ true → x ≡ None
 none_by None h = refl
 none_by (Some b) h = cc
 
+-- before the first value
+pub Trying-start : (w : Walk) (g : List Lit) (left : ℕ) → IsFit w → is_quiet (values w.trace.entries) w.checker.formula ≡ true
+    → list_any (is_true (values w.trace.entries)) g ≡ false → IsTrying w w g 0 left
+Trying-start w g left fit quiet untrue = record {
+  kept = record { formula = refl; size = refl; budget = refl };
+  fit = fit;
+  more = [];
+  joined = ends w.checker.lines;
+  over = refl;
+  grows = Grows-none w.trace.entries;
+  tried = none_first g;
+  untrue = untrue;
+  few = omega arith;
+  settled = quiet_late w.checker.formula w.trace.entries (length w.trace.entries) (omega arith) quiet;
+  begun = inr (refl, refl);
+}
+  where
+    ends : (xs : List Line) → xs ≡ xs ++ []
+    ends [] = refl
+    ends (x ∷ xs) = ap (λ (z : List Line). x ∷ z) (ends xs)
+
+    none_first : (g : List Lit) → list_all (is_false (values w.trace.entries)) (take 0 g) ≡ true
+    none_first [] = refl
+    none_first (l ∷ g) = refl
+
 -- a value that is false already
 pub Trying-skip : (w0 w : Walk) (g : List Lit) (i left : ℕ) (l : Lit) → IsTrying w0 w g i left → i < length g → l ≡ get_or g i l
     → is_none (values w.trace.entries l.var) ≡ false → IsTrying w0 w g (i + 1) left
@@ -111,6 +137,7 @@ Trying-skip w0 w g i left l t h e k = record {
       (rw (false_by (values w.trace.entries l.var) l.positive k (any_at (is_true (values w.trace.entries)) g i l h e t.untrue)) refl);
   untrue = t.untrue;
   few = more (w.count) (w0.count) i left t.few;
+  settled = t.settled;
   begun = t.begun;
 }
   where
@@ -126,8 +153,8 @@ Trying-skip w0 w g i left l t h e k = record {
 
 -- a value that was refuted
 pub Trying-left : (w0 w new : Walk) (g : List Lit) (i left : ℕ) (l : Lit) → IsTrying w0 w g i left → i < length g → l ≡ get_or g i l
-    → list_all (λ l. l.positive) g ≡ true → IsLeft w new l left → IsTrying w0 new g (i + 1) left
-Trying-left w0 w new g i left l t h e pos d =
+    → list_all (λ l. l.positive) g ≡ true → values w.trace.entries l.var ≡ None → IsLeft w new l left → IsTrying w0 new g (i + 1) left
+Trying-left w0 w new g i left l t h e pos none d =
     let same : line_of w.trace.entries ≡ line_of w0.trace.entries = line_of-grows w0.trace.entries w.trace.entries t.grows in
     let made : values new.trace.entries ≡ made_true (values w.trace.entries) d.other =
     ap values d.entries ∙ after_push nothing w.trace.entries (record { lit = d.other; reason = Some d.number }) in
@@ -150,6 +177,8 @@ Trying-left w0 w new g i left l t h e pos d =
           ∙ all_join (is_false (values new.trace.entries)) (take i g) (l ∷ []) (keeps_false (values w.trace.entries) (values new.trace.entries) (take i g) ext t.tried) (rw mine refl);
       untrue = ap (λ (p : Partial). list_any (is_true p) g) made ∙ still g pos t.untrue off;
       few = sums w0.count w.count new.count i left t.few d.few;
+      settled = settled_grown w.checker.formula new.checker.formula w.trace.entries new.trace.entries (record { lit = d.other; reason = Some d.number }) (length w0.trace.entries)
+          d.kept.formula t.settled (ap (values w.trace.entries) var ∙ none) d.entries (grows_long w0.trace.entries w.trace.entries t.grows);
       begun = inl (later t.begun d.rises);
     }
   where

@@ -8,10 +8,11 @@ use Rattle.cnf_search.specs.Lines.{choices}
 use Rattle.cnf_search.specs.declared.answer.Found.{Found}
 use Rattle.cnf_search.specs.declared.answer.Found.TheVariants.{Solved, Refuted, Spent}
 
--- a refutation has the circuit's formula and an accepted derivation for it, and took at least one counted conflict
+-- a refutation has the circuit's formula and an accepted derivation of different lines for it, and took at least one counted conflict
 pub record IsRefutedBy (c : Drawn) (budget : ℕ) (r : Checked) : Type 0 where
   pub formula : r.formula ≡ c.fixed ++ c.required
   pub derivation : IsRefutation r.formula r.lines
+  pub distinct : AreDistinct r.lines
   pub counted : 0 < budget
 
 -- an effort has the circuit's formula and at least as many different accepted lines as the budget, and comes only where there are more choices than it

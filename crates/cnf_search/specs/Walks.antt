@@ -1,5 +1,5 @@
 -- What a walk keeps, and what each part of it ends with.
-use Rattle.std.specs.Prelude.{◌≡◌, ℕ, ◌+◌, ◌*◌, ◌<◌, ◌≤◌, true, false, Some, List, [], ◌∷◌, ◌++◌, length, take, slice_get, ◌⊎◌}
+use Rattle.std.specs.Prelude.{◌≡◌, ℕ, ◌+◌, ◌*◌, ◌<◌, ◌≤◌, true, false, Some, List, [], ◌∷◌, ◌++◌, length, take, drop, slice_get, ◌⊎◌}
 use Rattle.std.specs.List.{list_any, list_all}
 use Rattle.cnf_base.specs.declared.lit.Lit.{Lit}
 use Rattle.cnf_base.specs.declared.line.Line.{Line}
@@ -9,6 +9,7 @@ use Rattle.cnf_check.specs.Checked.{clauses_after, AreDistinct}
 use Rattle.cnf_search.specs.Trails.{Explained, values, nothing, line_of, Grows}
 use Rattle.cnf_search.specs.Ended.{completed}
 use Rattle.cnf_search.specs.Lines.{are_true, are_over}
+use Rattle.cnf_search.specs.Queue.{AreSettled}
 use Rattle.cnf_search.specs.declared.walk.Walk.{Walk}
 use Rattle.cnf_search.specs.declared.walk.Step.{Step}
 use Rattle.cnf_search.specs.declared.walk.Step.TheVariants.{Solved, Refuted, Spent}
@@ -112,4 +113,5 @@ pub record IsTrying (old now : Walk) (group : List Lit) (i left : ℕ) : Type 0 
   pub tried : list_all (is_false (values now.trace.entries)) (take i group) ≡ true
   pub untrue : list_any (is_true (values now.trace.entries)) group ≡ false
   pub few : now.count ≤ old.count + i * left
+  pub settled : AreSettled now.checker.formula (values now.trace.entries) (drop (length old.trace.entries) now.trace.entries) []
   pub begun : (old.count < now.count) ⊎ ((now.trace.entries ≡ old.trace.entries) × (now.count ≡ old.count))

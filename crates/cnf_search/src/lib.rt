@@ -2,6 +2,7 @@
 #![tactic(auto)]
 
 mod answer;
+mod index;
 #[cfg(test)]
 mod tests;
 mod trace;

@@ -6,6 +6,7 @@ ghost use Rattle.cnf_base.specs.Derivation.{is_all_false, lone};
 ghost use Rattle.cnf_search.specs.Trails.{hints_of, line_of, values};
 ghost use Rattle.cnf_base.specs.Bounds.{IsVariable};
 ghost use Rattle.cnf_search.specs.Ended.{completed};
+ghost use Rattle.cnf_search.specs.Queue.{IsLitAt};
 
 use cnf_base::{Clause, Hints, Line, Lit, Trail};
 use cnf_check::{is_clause_false, lone_literal};
@@ -50,6 +51,15 @@ impl Trace {
         ensures short { length self.now.entries ≤ self.now.size }
     {
         self.trail.lits().len()
+    }
+
+    /// The literal at a place.
+    pub fn lit(&self, place: usize) -> Lit
+        requires { place < length self.now.entries }
+        ensures { IsLitAt self.now.entries place result }
+    {
+        let lits = self.trail.lits();
+        lits[place]
     }
 
     pub fn is_false(&self, clause: &Clause) -> bool

@@ -1,25 +1,24 @@
 //! The walk through the choices of the groups.
 
-ghost use Rattle.std.specs.Prelude.{◌≡◌, ℕ, ◌+◌, ◌<◌, ◌≤◌, ◌++◌, drop, take, length, IfOk, true, None, slice_index_or, []};
-ghost use Rattle.cnf_base.specs.Clauses.{variables, has};
+ghost use Rattle.std.specs.Prelude.{◌≡◌, ℕ, ◌+◌, ◌<◌, ◌≤◌, ◌++◌, ◌∷◌, [], drop, take, length, IfOk, IfSome, IfNone, OnOk, true, false, None, Some, is_none, slice_index_or, List};
+ghost use Rattle.std.specs.List.{list_any};
+ghost use Rattle.cnf_base.specs.declared.lit.Lit.{Lit};
+ghost use Rattle.cnf_base.specs.Clauses.{variables, clause_variables, has, negate};
+ghost use Rattle.cnf_base.specs.Known.{is_true};
 ghost use Rattle.cnf_gate.specs.Built.{is_quiet, is_decided};
 ghost use Rattle.cnf_gate.specs.Circuit.{IsCircuit};
-ghost use Rattle.cnf_search.specs.Trails.{values, IsConflict};
+ghost use Rattle.cnf_search.specs.Trails.{values, IsConflict, Grows, Entry};
 ghost use Rattle.cnf_search.specs.Lines.{choices};
+ghost use Rattle.cnf_search.specs.Queue.{AreSettled, IsIndex};
 ghost use Rattle.cnf_search.specs.Walks.{known, IsFit, IsMoved, Adds, Explores, Leaves};
-ghost use Rattle.cnf_search.specs.Trails.{Grows, Entry};
-ghost use Rattle.std.specs.Prelude.{IfSome, IfNone, OnOk, is_none, ◌∷◌, Some, List};
-ghost use Rattle.std.specs.List.{list_any};
-ghost use Rattle.cnf_base.specs.Known.{is_true};
-ghost use Rattle.cnf_base.specs.Clauses.{clause_variables, negate};
-ghost use Rattle.cnf_base.specs.declared.lit.Lit.{Lit};
 
+use crate::index::Index;
 use crate::trace::Trace;
-use crate::unit::propagate;
-use cnf_base::{Clause, Lit, Lits};
+use crate::unit::{propagate, visit_all};
+use cnf_base::{Lit, Lits};
 use cnf_check::Checker;
 use cnf_gate::Circuit;
-use std::alloc::AllocError;
+use std::alloc::{AllocError, Global};
 
 /// The lines so far, the trail, and how many conflicts were counted.
 #[derive(Drop, Debug)]
@@ -67,16 +66,30 @@ fn fail(walk: &mut Walk, conflict: u64) -> Result<Step, AllocError>
     Ok(Step::Refuted(number))
 }
 
-/// Propagates.
-fn settle(walk: &mut Walk) -> Result<Option<u64>, AllocError>
+/// Looks at each clause once.
+fn sweep(alloc: Global, walk: &mut Walk) -> Result<Option<u64>, AllocError>
     requires { IsFit walk.old }
+    ensures moved { IsMoved walk.old walk.new }
+    ensures fit { IsFit walk.new }
+    ensures grows { Grows walk.old.trace.entries walk.new.trace.entries }
+    ensures conflict { IfOk result (λ o. IfSome o (λ n. IsConflict (known walk.new) (values walk.new.trace.entries) n)) }
+    ensures settled { IfOk result (λ o. IfNone o (walk.old.trace.entries ≡ [] → AreSettled walk.new.checker.formula (values walk.new.trace.entries) walk.new.trace.entries [])) }
+{
+    visit_all(alloc, &walk.checker, &mut walk.trace)
+}
+
+/// Propagates.
+fn settle(walk: &mut Walk, index: &Index, from: usize) -> Result<Option<u64>, AllocError>
+    requires fit { IsFit walk.old }
+    requires indexed { IsIndex walk.old.checker.formula index.now }
+    requires settled { AreSettled walk.old.checker.formula (values walk.old.trace.entries) (drop from walk.old.trace.entries) [] }
     ensures moved { IsMoved walk.old walk.new }
     ensures fit { IsFit walk.new }
     ensures grows { Grows walk.old.trace.entries walk.new.trace.entries }
     ensures conflict { IfOk result (λ o. IfSome o (λ n. IsConflict (known walk.new) (values walk.new.trace.entries) n)) }
     ensures quiet { IfOk result (λ o. IfNone o (is_quiet (values walk.new.trace.entries) walk.new.checker.formula ≡ true)) }
 {
-    propagate(&walk.checker, &mut walk.trace)
+    propagate(&walk.checker, index, &mut walk.trace, from)
 }
 
 /// Makes a value true by decision.
@@ -89,7 +102,7 @@ fn decide(walk: &mut Walk, lit: Lit) -> Result<(), AllocError>
     walk.trace.push(lit, None)
 }
 
-/// Takes back all but the first `start` entries, and makes a literal false by the line of this number.
+/// Goes back to the first `start` entries, and makes a refuted value false by the line of this number.
 fn flip(walk: &mut Walk, start: usize, lit: Lit, number: u64) -> Result<(), AllocError>
     requires start { start ≤ length walk.old.trace.entries }
     requires room { lit.var < walk.old.trace.size }
@@ -107,7 +120,7 @@ fn entries(walk: &Walk) -> usize
     walk.trace.len()
 }
 
-fn has_true(walk: &Walk, group: &Clause) -> bool
+fn has_true(walk: &Walk, group: &Lits) -> bool
     requires { clause_variables group.now ≤ walk.now.trace.size }
     ensures { result ≡ list_any (is_true (values walk.now.trace.entries)) group.now }
 {
@@ -129,50 +142,124 @@ fn groups_of(circuit: &Circuit) -> &[Lits]
     circuit.groups().slice()
 }
 
+/// The first group from `depth` on that has no true literal.
+fn next_group(walk: &Walk, circuit: &Circuit, depth: usize) -> usize
+    requires room { variables walk.now.checker.formula ≤ walk.now.trace.size }
+    requires same { walk.now.checker.formula ≡ circuit.now.fixed ++ circuit.now.required }
+    requires decided { is_decided (values walk.now.trace.entries) (take depth circuit.now.groups) ≡ true }
+    requires within { depth ≤ length circuit.now.groups }
+    ensures later { depth ≤ result }
+    ensures within { result ≤ length circuit.now.groups }
+    ensures decided { is_decided (values walk.now.trace.entries) (take result circuit.now.groups) ≡ true }
+    ensures untrue { result < length circuit.now.groups → list_any (is_true (values walk.now.trace.entries)) (slice_index_or circuit.now.groups result []) ≡ false }
+{
+    let groups = groups_of(circuit);
+    for place in depth..groups.len() {
+        if !has_true(walk, &groups[place]) {
+            return place;
+        }
+    }
+    groups.len()
+}
+
+/// Looks at each clause once, and then tries the values of all groups.
+pub fn start(
+    alloc: Global,
+    walk: &mut Walk,
+    index: &Index,
+    circuit: &Circuit,
+) -> Result<Step, AllocError>
+    requires fit { IsFit walk.old }
+    requires empty { walk.old.trace.entries ≡ [] }
+    requires same { walk.old.checker.formula ≡ circuit.now.fixed ++ circuit.now.required }
+    requires indexed { IsIndex walk.old.checker.formula index.now }
+    ensures { IfOk result (λ s. Explores walk.old walk.new (choices circuit.now.groups) s) }
+{
+    let _whole = groups_of(circuit);
+    match sweep(alloc, walk)? {
+        Some(conflict) => Ok(fail(walk, conflict)?),
+        None => Ok(attempt(walk, index, circuit, 0, 0)?),
+    }
+}
+
 /// Propagates, and then tries the values of the groups from `depth` on.
 #[cycle(walk)]
-pub fn attempt(walk: &mut Walk, circuit: &Circuit, depth: usize) -> Result<Step, AllocError>
+fn attempt(
+    walk: &mut Walk,
+    index: &Index,
+    circuit: &Circuit,
+    depth: usize,
+    from: usize,
+) -> Result<Step, AllocError>
     requires fit { IsFit walk.old }
     requires same { walk.old.checker.formula ≡ circuit.now.fixed ++ circuit.now.required }
+    requires indexed { IsIndex walk.old.checker.formula index.now }
+    requires settled { AreSettled walk.old.checker.formula (values walk.old.trace.entries) (drop from walk.old.trace.entries) [] }
     requires decided { is_decided (values walk.old.trace.entries) (take depth circuit.now.groups) ≡ true }
     requires within { depth ≤ length circuit.now.groups }
     ensures { IfOk result (λ s. Explores walk.old walk.new (choices (drop depth circuit.now.groups)) s) }
 {
     let _whole = groups_of(circuit);
-    match settle(walk)? {
+    match settle(walk, index, from)? {
         Some(conflict) => Ok(fail(walk, conflict)?),
-        None => Ok(explore(walk, circuit, depth)?),
+        None => Ok(explore(walk, index, circuit, depth)?),
     }
 }
 
 /// Tries the values of the groups from `depth` on, where no clause asks for anything.
 #[cycle(walk)]
-fn explore(walk: &mut Walk, circuit: &Circuit, depth: usize) -> Result<Step, AllocError>
+fn explore(
+    walk: &mut Walk,
+    index: &Index,
+    circuit: &Circuit,
+    depth: usize,
+) -> Result<Step, AllocError>
     requires fit { IsFit walk.old }
     requires same { walk.old.checker.formula ≡ circuit.now.fixed ++ circuit.now.required }
+    requires indexed { IsIndex walk.old.checker.formula index.now }
     requires quiet { is_quiet (values walk.old.trace.entries) walk.old.checker.formula ≡ true }
     requires decided { is_decided (values walk.old.trace.entries) (take depth circuit.now.groups) ≡ true }
     requires within { depth ≤ length circuit.now.groups }
     ensures { IfOk result (λ s. Explores walk.old walk.new (choices (drop depth circuit.now.groups)) s) }
 {
     let groups = groups_of(circuit);
-    if depth == groups.len() {
+    let place = next_group(walk, circuit, depth);
+    if place == groups.len() {
         return Ok(Step::Solved);
     }
+    Ok(choose(walk, index, circuit, place)?)
+}
+
+/// Tries the values of the group at `depth`, one after the other.
+#[cycle(walk)]
+fn choose(
+    walk: &mut Walk,
+    index: &Index,
+    circuit: &Circuit,
+    depth: usize,
+) -> Result<Step, AllocError>
+    requires fit { IsFit walk.old }
+    requires same { walk.old.checker.formula ≡ circuit.now.fixed ++ circuit.now.required }
+    requires indexed { IsIndex walk.old.checker.formula index.now }
+    requires quiet { is_quiet (values walk.old.trace.entries) walk.old.checker.formula ≡ true }
+    requires decided { is_decided (values walk.old.trace.entries) (take depth circuit.now.groups) ≡ true }
+    requires within { depth < length circuit.now.groups }
+    requires untrue { list_any (is_true (values walk.old.trace.entries)) (slice_index_or circuit.now.groups depth []) ≡ false }
+    ensures { IfOk result (λ s. Explores walk.old walk.new (choices (drop depth circuit.now.groups)) s) }
+{
+    let groups = groups_of(circuit);
     let group = &groups[depth];
-    if has_true(walk, group) {
-        return Ok(explore(walk, circuit, depth + 1)?);
-    }
+    let from = entries(walk);
     for lit in group.slice() {
         if !is_open(walk, *lit) {
             continue;
         }
-        match leave(walk, circuit, depth, *lit)? {
+        match leave(walk, index, circuit, depth, from, *lit)? {
             Step::Refuted(_) => {}
             other => return Ok(other),
         }
     }
-    match settle(walk)? {
+    match settle(walk, index, from)? {
         Some(conflict) => Ok(Step::Refuted(refute(walk, conflict)?)),
         None => unreachable!(),
     }
@@ -180,9 +267,19 @@ fn explore(walk: &mut Walk, circuit: &Circuit, depth: usize) -> Result<Step, All
 
 /// Tries one value, and makes it false where it is refuted.
 #[cycle(walk)]
-fn leave(walk: &mut Walk, circuit: &Circuit, depth: usize, lit: Lit) -> Result<Step, AllocError>
+fn leave(
+    walk: &mut Walk,
+    index: &Index,
+    circuit: &Circuit,
+    depth: usize,
+    from: usize,
+    lit: Lit,
+) -> Result<Step, AllocError>
     requires fit { IsFit walk.old }
     requires same { walk.old.checker.formula ≡ circuit.now.fixed ++ circuit.now.required }
+    requires indexed { IsIndex walk.old.checker.formula index.now }
+    requires settled { AreSettled walk.old.checker.formula (values walk.old.trace.entries) (drop from walk.old.trace.entries) [] }
+    requires begun { from ≤ length walk.old.trace.entries }
     requires decided { is_decided (values walk.old.trace.entries) (take depth circuit.now.groups) ≡ true }
     requires within { depth < length circuit.now.groups }
     requires there { has (slice_index_or circuit.now.groups depth []) lit ≡ true }
@@ -193,7 +290,7 @@ fn leave(walk: &mut Walk, circuit: &Circuit, depth: usize, lit: Lit) -> Result<S
     let _count = groups_of(circuit).len();
     let start = entries(walk);
     decide(walk, lit)?;
-    match attempt(walk, circuit, depth + 1)? {
+    match attempt(walk, index, circuit, depth + 1, from)? {
         Step::Refuted(number) => {
             flip(walk, start, lit, number)?;
             Ok(Step::Refuted(number))

@@ -1,33 +1,32 @@
-use Rattle.std.proofs.Common.{List, arith, ap, sym, ◌∙◌, subst, Some}
-use Rattle.cnf_base.proofs.VariableBounds.{variables-there}
-use Rattle.cnf_search.specs.Trails.{Entry, Explained, nothing, values}
-use Rattle.cnf_search.proofs.Traces.{has_below, explained_push, Grows-push}
-use Rattle.cnf_base.specs.Clauses.{variables}
-use Rattle.cnf_check.specs.Checked.{clauses_after}
-use Rattle.cnf_search.proofs.Fronts.{reason_known}
+use Rattle.std.proofs.Common.{◌≡◌, ◌≤◌, ◌+◌, [], List, ℕ, length, drop, arith, ap, sym, ◌∙◌, subst, Option}
+use Rattle.std.specs.Prelude.{IfNone}
+use Rattle.cnf_base.specs.declared.lit.Lit.{Lit}
+use Rattle.cnf_base.specs.Clauses.{negate}
+use Rattle.cnf_search.specs.Trails.{Entry, values}
+use Rattle.cnf_search.specs.Queue.{AreSettled}
+use Rattle.cnf_search.proofs.Settled.{settled_next}
+use Rattle.cnf_search.proofs.Visits.{Grows-trans, late_quiet, none_is}
 use Rattle.cnf_search.proofs.unit.propagate.Goals as goal
 
-pub push-requires-clause-room : goal.push-requires-clause-room
-push-requires-clause-room c =
-    omega (
-      arith,
-      variables-there c.formula-formula.result.now c.in-Forced.number c.in-Forced.ensures.clause c.in-Forced.ensures.named,
-      has_below c.in-Forced.ensures.clause c.in-Forced.lit c.in-Forced.ensures.reason.there,
-      c.loop-number.invariant.1,
-      c.requires.room,
-      ap variables c.formula-formula.ensures,
-    )
+pub loop-head-preserved : goal.loop-head-preserved
+loop-head-preserved c =
+    let f : List (List Lit) = c.args.checker.now.formula in
+    let now : List Entry = c.loop-head.trace.entries in
+    let new : List Entry = c.visit.new.trace.entries in
+    let negated : c.negated.result ≡ negate c.lit-lit.ensures.entry.lit = c.negated.ensures.value ∙ ap negate c.lit-lit.ensures.lit in
+    let R : List ℕ → Type 0 = λ z. AreSettled f (values now) (drop (c.loop-head.head + 1) now) z in
+    let before : AreSettled f (values now) (drop (c.loop-head.head + 1) now) c.clauses_with-numbers.result.now =
+    subst R (sym c.clauses_with-numbers.ensures)
+    (settled_next f c.args.index.now (values now) (drop c.loop-head.head now) (drop (c.loop-head.head + 1) now) c.lit-lit.ensures.entry c.negated.result c.requires.indexed c.lit-lit.ensures.split negated
+    c.loop-head.invariant.settled) in
+    let P : Option ℕ → Type 0 = λ o. IfNone o ((k : ℕ) → k ≤ length now → AreSettled f (values now) (drop k now) c.clauses_with-numbers.result.now → AreSettled f (values new) (drop k new) []) in
+    let step = none_is c.in_ok-conflict.field-0 _ c.in_default.not-Some c.in_ok-conflict.ensures.settled in record {
+      explained = c.in_ok-conflict.ensures.explained;
+      grows = Grows-trans c.args.trace.now.entries now new c.loop-head.invariant.grows c.in_ok-conflict.ensures.grows;
+      size = c.in_ok-conflict.ensures.size ∙ c.loop-head.invariant.size;
+      settled = step (c.loop-head.head + 1) (omega (arith, c.len.ensures.value)) before;
+    }
 
-pub loop-number-preserved : goal.loop-number-preserved
-loop-number-preserved c =
-    let e : Entry = record { lit = c.in-Forced.lit; reason = Some c.in-Forced.number } in
-    let P : List Entry → Type 0 = λ es. Explained (clauses_after c.args.checker.now.formula c.args.checker.now.lines) nothing es in (
-      record {
-        explained = subst P (sym c.in_ok-push-in-Forced.ensures.ok)
-            (explained_push (clauses_after c.args.checker.now.formula c.args.checker.now.lines) nothing c.loop-number.trace.entries e c.loop-number.invariant.0.explained
-            (reason_known c.formula-formula.result.now c.args.checker.now.formula c.args.checker.now.lines (values c.loop-number.trace.entries) c.in-Forced.number c.in-Forced.lit c.formula-formula.ensures c.in-Forced.ensures));
-        grows = Grows-push c.args.trace.now.entries c.loop-number.trace.entries c.push.new.self.entries c.in-Forced.lit c.in-Forced.number
-            c.loop-number.invariant.0.grows c.in_ok-push-in-Forced.ensures.ok;
-      },
-      c.in_ok-push-in-Forced.ensures.size ∙ c.loop-number.invariant.1,
-    )
+pub returns-clause-quiet : goal.returns-clause-quiet
+returns-clause-quiet c =
+    late_quiet c.args.checker.now.formula c.loop-head.trace.entries c.loop-head.head (omega (arith, c.len.ensures.value)) c.loop-head.invariant.settled

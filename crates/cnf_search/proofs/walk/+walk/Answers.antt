@@ -1,9 +1,9 @@
 use Rattle.std.proofs.Common.{◌≡◌, ◌<◌, ◌+◌, ◌*◌, ◌++◌, ◌∷◌, [], List, ℕ, length, take, drop, arith, ap, sym, ◌∙◌, subst, Option, Some, None, true, rules}
 use Rattle.std.specs.Prelude.{IfNone}
-use Rattle.std.specs.List.{list_all}
+use Rattle.std.specs.List.{list_all, list_any}
 use Rattle.cnf_base.specs.declared.lit.Lit.{Lit}
 use Rattle.cnf_base.specs.Clauses.{has, clause_variables}
-use Rattle.cnf_base.specs.Known.{is_false}
+use Rattle.cnf_base.specs.Known.{is_true, is_false}
 use Rattle.cnf_base.proofs.VariableBounds.{var_read}
 use Rattle.cnf_check.specs.Checked.{Checked}
 use Rattle.cnf_gate.specs.Built.{is_quiet}
@@ -15,32 +15,38 @@ use Rattle.cnf_search.specs.declared.walk.Step.{Step}
 use Rattle.cnf_search.specs.declared.walk.Step.TheVariants.{Refuted}
 use Rattle.cnf_search.proofs.Extends.{extends_grows, keeps_decided, keeps_false}
 use Rattle.cnf_search.proofs.Traces.{take_all}
-use Rattle.cnf_search.proofs.Steps.{Explores-less, choices_left, choices_next, choices_drop, decided_decide, Fit-decide, front_decide}
-use Rattle.cnf_search.proofs.Trying.{moved_is, Explores-moved, Left-moved, has_at, none_by, Trying-left, Trying-other, quiet_group, positive_group, group_room, Solved-here, Refuted-group, index_is}
+use Rattle.cnf_search.specs.Queue.{AreSettled}
+use Rattle.cnf_search.proofs.Visits.{index_along, settled_grown, grows_long}
+use Rattle.cnf_search.proofs.Steps.{Explores-less, choices_left, choices_later, choices_drop, decided_decide, Fit-decide, front_decide}
+use Rattle.cnf_search.proofs.Trying.{moved_is, Explores-moved, Left-moved, has_at, none_by, Trying-left, Trying-other, quiet_group, positive_group, group_room, Solved-here, Refuted-group, Trying-start, index_is}
 use Rattle.cnf_search.proofs.walk.+walk.Goals as goal
 
 formula_moved : (w w1 : Walk) → IsMoved w w1 → w1.checker.formula ≡ w.checker.formula
 formula_moved w w1 m = ap (λ (z : Checked). z.formula) m.checker
 
 pub attempt-explore-requires : goal.attempt-explore-requires
-attempt-explore-requires t c = (
-  omega arith,
-  (
-    c.in_ok-conflict.ensures.fit,
-    (
-      formula_moved c.args.walk.now c.settle.new.walk c.in_ok-conflict.ensures.moved ∙ c.requires.same,
+attempt-explore-requires t c =
+    let same : c.settle.new.walk.checker.formula ≡ c.args.walk.now.checker.formula = formula_moved c.args.walk.now c.settle.new.walk c.in_ok-conflict.ensures.moved in (
+      omega arith,
       (
-        search rules,
+        c.in_ok-conflict.ensures.fit,
         (
-          keeps_decided (values c.args.walk.now.trace.entries) (values c.settle.new.walk.trace.entries) (take c.args.depth c.args.circuit.now.groups)
-              (extends_grows _ c.args.walk.now.trace.entries c.settle.new.walk.trace.entries c.in_ok-conflict.ensures.grows.more c.in_ok-conflict.ensures.grows.joined c.in_ok-conflict.ensures.fit.explained)
-              c.requires.decided,
-          c.requires.within,
+          same ∙ c.requires.same,
+          (
+            index_along c.args.walk.now.checker.formula c.settle.new.walk.checker.formula c.args.index.now same c.requires.indexed,
+            (
+              search rules,
+              (
+                keeps_decided (values c.args.walk.now.trace.entries) (values c.settle.new.walk.trace.entries) (take c.args.depth c.args.circuit.now.groups)
+                    (extends_grows _ c.args.walk.now.trace.entries c.settle.new.walk.trace.entries c.in_ok-conflict.ensures.grows.more c.in_ok-conflict.ensures.grows.joined c.in_ok-conflict.ensures.fit.explained)
+                    c.requires.decided,
+                c.requires.within,
+              ),
+            ),
+          ),
         ),
       ),
-    ),
-  ),
-)
+    )
 
 pub attempt-returns-in_ok-fail-in-Some : goal.attempt-returns-in_ok-fail-in-Some
 attempt-returns-in_ok-fail-in-Some t c =
@@ -53,64 +59,85 @@ attempt-returns-in_ok-explore-in-None t c =
     Explores-moved c.args.walk.now c.settle.new.walk c.explore.new.walk (choices (drop c.args.depth c.args.circuit.now.groups)) c.in_ok-explore-in-None.field-0
     c.in_ok-conflict.ensures.moved c.in_ok-conflict.ensures.grows c.in_ok-explore-in-None.ensures
 
-pub explore-returns-then-depth-groups : goal.explore-returns-then-depth-groups
-explore-returns-then-depth-groups t c =
-    Solved-here c.args.walk.now c.args.circuit.now.fixed c.args.circuit.now.required c.args.circuit.now.groups c.args.depth c.requires.fit c.groups_of-groups.ensures.whole
-    c.requires.same c.requires.quiet c.requires.decided (omega (arith, ap length c.groups_of-groups.ensures.value))
+pub explore-returns-then-place-groups : goal.explore-returns-then-place-groups
+explore-returns-then-place-groups t c =
+    Solved-here c.args.walk.now c.args.circuit.now.fixed c.args.circuit.now.required c.args.circuit.now.groups c.next_group-place.result c.requires.fit c.groups_of-groups.ensures.whole
+    c.requires.same c.requires.quiet c.next_group-place.ensures.decided (omega (arith, ap length c.groups_of-groups.ensures.value))
 
-pub explore-has_true-requires : goal.explore-has_true-requires
-explore-has_true-requires t c =
+pub explore-choose-requires : goal.explore-choose-requires
+explore-choose-requires t c =
+    let within : c.next_group-place.result < length c.args.circuit.now.groups = omega (arith, ap length c.groups_of-groups.ensures.value, c.next_group-place.ensures.within) in (
+      omega (arith, c.next_group-place.ensures.later, within),
+      (
+        c.requires.fit,
+        (c.requires.same, (c.requires.indexed, (c.requires.quiet, (c.next_group-place.ensures.decided, (within, c.next_group-place.ensures.untrue within))))),
+      ),
+    )
+
+pub explore-returns : goal.explore-returns
+explore-returns t c =
+    Explores-less c.args.walk.now c.choose.new.walk (choices (drop c.next_group-place.result c.args.circuit.now.groups)) (choices (drop c.args.depth c.args.circuit.now.groups)) c.in_ok-choose.field-0
+    (choices_later c.args.circuit.now.groups c.args.depth c.next_group-place.result c.next_group-place.ensures.later c.next_group-place.ensures.within c.groups_of-groups.ensures.whole.grouped.filled)
+    c.in_ok-choose.ensures
+
+pub choose-loop-lit-init : goal.choose-loop-lit-init
+choose-loop-lit-init t c =
     let less : c.args.depth < length c.groups_of-groups.result.now = omega (arith, ap length c.groups_of-groups.ensures.value) in
-    group_room c.args.walk.now.checker.formula c.args.circuit.now.fixed c.args.circuit.now.required c.args.circuit.now.groups c.args.depth c.args.walk.now.trace.size c.index-groups-depth.result
-    c.groups_of-groups.ensures.whole c.requires.same c.requires.fit.room (omega (arith, ap length c.groups_of-groups.ensures.value))
-    (index_is c.groups_of-groups.result.now c.args.circuit.now.groups c.args.depth c.index-groups-depth.result less c.index-groups-depth.is c.groups_of-groups.ensures.value)
+    let g = index_is c.groups_of-groups.result.now c.args.circuit.now.groups c.args.depth c.index-groups-depth.result less c.index-groups-depth.is c.groups_of-groups.ensures.value in
+    Trying-start c.args.walk.now c.slice-lit-items.result.now (choices (drop (c.args.depth + 1) c.args.circuit.now.groups)) c.requires.fit c.requires.quiet
+    (ap (list_any (is_true (values c.args.walk.now.trace.entries))) (c.slice-lit-items.ensures ∙ g) ∙ c.requires.untrue)
 
-pub explore-returns-then-has_true : goal.explore-returns-then-has_true
-explore-returns-then-has_true t c =
-    Explores-less c.args.walk.now c.explore.new.walk (choices (drop (c.args.depth + 1) c.args.circuit.now.groups)) (choices (drop c.args.depth c.args.circuit.now.groups)) c.in_ok-explore.field-0
-    (choices_next c.args.circuit.now.groups c.args.depth (omega (arith, ap length c.groups_of-groups.ensures.value)) c.groups_of-groups.ensures.whole.grouped.filled) c.in_ok-explore.ensures
-
-pub explore-is_open-requires : goal.explore-is_open-requires
-explore-is_open-requires t c =
+pub choose-is_open-requires : goal.choose-is_open-requires
+choose-is_open-requires t c =
     let less : c.args.depth < length c.groups_of-groups.result.now = omega (arith, ap length c.groups_of-groups.ensures.value) in
+    let g = index_is c.groups_of-groups.result.now c.args.circuit.now.groups c.args.depth c.index-groups-depth.result less c.index-groups-depth.is c.groups_of-groups.ensures.value in
     omega (
       arith,
       group_room c.args.walk.now.checker.formula c.args.circuit.now.fixed c.args.circuit.now.required c.args.circuit.now.groups c.args.depth c.args.walk.now.trace.size c.index-groups-depth.result
-          c.groups_of-groups.ensures.whole c.requires.same c.requires.fit.room (omega (arith, ap length c.groups_of-groups.ensures.value))
-          (index_is c.groups_of-groups.result.now c.args.circuit.now.groups c.args.depth c.index-groups-depth.result less c.index-groups-depth.is c.groups_of-groups.ensures.value),
+          c.groups_of-groups.ensures.whole c.requires.same c.requires.fit.room c.requires.within g,
       var_read c.slice-lit-items.result.now c.loop-lit.lit-index c.lit-item.result (omega arith) c.lit-item.is,
       ap clause_variables c.slice-lit-items.ensures,
       c.loop-lit.invariant.kept.size,
     )
 
-pub explore-leave-requires : goal.explore-leave-requires
-explore-leave-requires t c =
+pub choose-leave-requires : goal.choose-leave-requires
+choose-leave-requires t c =
     let less : c.args.depth < length c.groups_of-groups.result.now = omega (arith, ap length c.groups_of-groups.ensures.value) in
-    let g = index_is c.groups_of-groups.result.now c.args.circuit.now.groups c.args.depth c.index-groups-depth.result less c.index-groups-depth.is c.groups_of-groups.ensures.value in (
+    let g = index_is c.groups_of-groups.result.now c.args.circuit.now.groups c.args.depth c.index-groups-depth.result less c.index-groups-depth.is c.groups_of-groups.ensures.value in
+    let Q : ℕ → Type 0 = λ k. AreSettled c.loop-lit.walk.checker.formula (values c.loop-lit.walk.trace.entries) (drop k c.loop-lit.walk.trace.entries) [] in (
       omega arith,
       (
         c.loop-lit.invariant.fit,
         (
           c.loop-lit.invariant.kept.formula ∙ c.requires.same,
           (
-            keeps_decided (values c.args.walk.now.trace.entries) (values c.loop-lit.walk.trace.entries) (take c.args.depth c.args.circuit.now.groups)
-                (extends_grows _ c.args.walk.now.trace.entries c.loop-lit.walk.trace.entries c.loop-lit.invariant.grows.more c.loop-lit.invariant.grows.joined c.loop-lit.invariant.fit.explained)
-                c.requires.decided,
+            index_along c.args.walk.now.checker.formula c.loop-lit.walk.checker.formula c.args.index.now c.loop-lit.invariant.kept.formula c.requires.indexed,
             (
-              omega (arith, ap length c.groups_of-groups.ensures.value),
+              subst Q (sym c.entries-from.ensures) c.loop-lit.invariant.settled,
               (
-                ap (λ (z : List Lit). has z c.lit-item.result) (sym (c.slice-lit-items.ensures ∙ g))
-                    ∙ has_at c.slice-lit-items.result.now c.loop-lit.lit-index c.lit-item.result (omega arith) c.lit-item.is,
+                omega (arith, c.entries-from.ensures, grows_long c.args.walk.now.trace.entries c.loop-lit.walk.trace.entries c.loop-lit.invariant.grows),
                 (
-                  omega (
-                    arith,
-                    group_room c.args.walk.now.checker.formula c.args.circuit.now.fixed c.args.circuit.now.required c.args.circuit.now.groups c.args.depth c.args.walk.now.trace.size c.index-groups-depth.result
-                        c.groups_of-groups.ensures.whole c.requires.same c.requires.fit.room (omega (arith, ap length c.groups_of-groups.ensures.value)) g,
-                    var_read c.slice-lit-items.result.now c.loop-lit.lit-index c.lit-item.result (omega arith) c.lit-item.is,
-                    ap clause_variables c.slice-lit-items.ensures,
-                    c.loop-lit.invariant.kept.size,
+                  keeps_decided (values c.args.walk.now.trace.entries) (values c.loop-lit.walk.trace.entries) (take c.args.depth c.args.circuit.now.groups)
+                      (extends_grows _ c.args.walk.now.trace.entries c.loop-lit.walk.trace.entries c.loop-lit.invariant.grows.more c.loop-lit.invariant.grows.joined c.loop-lit.invariant.fit.explained)
+                      c.requires.decided,
+                  (
+                    c.requires.within,
+                    (
+                      ap (λ (z : List Lit). has z c.lit-item.result) (sym (c.slice-lit-items.ensures ∙ g))
+                          ∙ has_at c.slice-lit-items.result.now c.loop-lit.lit-index c.lit-item.result (omega arith) c.lit-item.is,
+                      (
+                        omega (
+                          arith,
+                          group_room c.args.walk.now.checker.formula c.args.circuit.now.fixed c.args.circuit.now.required c.args.circuit.now.groups c.args.depth c.args.walk.now.trace.size c.index-groups-depth.result
+                              c.groups_of-groups.ensures.whole c.requires.same c.requires.fit.room c.requires.within g,
+                          var_read c.slice-lit-items.result.now c.loop-lit.lit-index c.lit-item.result (omega arith) c.lit-item.is,
+                          ap clause_variables c.slice-lit-items.ensures,
+                          c.loop-lit.invariant.kept.size,
+                        ),
+                        none_by (values c.loop-lit.walk.trace.entries c.lit-item.result.var) (sym c.is_open.ensures ∙ (search rules)),
+                      ),
+                    ),
                   ),
-                  none_by (values c.loop-lit.walk.trace.entries c.lit-item.result.var) (sym c.is_open.ensures ∙ (search rules)),
                 ),
               ),
             ),
@@ -119,61 +146,79 @@ explore-leave-requires t c =
       ),
     )
 
-pub explore-returns-in_default : goal.explore-returns-in_default
-explore-returns-in_default t c =
+pub choose-returns-in_default : goal.choose-returns-in_default
+choose-returns-in_default t c =
     let less : c.args.depth < length c.groups_of-groups.result.now = omega (arith, ap length c.groups_of-groups.ensures.value) in
     let g = index_is c.groups_of-groups.result.now c.args.circuit.now.groups c.args.depth c.index-groups-depth.result less c.index-groups-depth.is c.groups_of-groups.ensures.value in
     Trying-other c.args.walk.now c.loop-lit.walk c.leave.new.walk c.slice-lit-items.result.now c.loop-lit.lit-index (choices (drop (c.args.depth + 1) c.args.circuit.now.groups))
     (choices (drop c.args.depth c.args.circuit.now.groups)) c.lit-item.result c.in_ok-other.other c.loop-lit.invariant (omega arith)
-    (choices_drop c.args.circuit.now.groups c.args.depth (omega (arith, ap length c.groups_of-groups.ensures.value))
+    (choices_drop c.args.circuit.now.groups c.args.depth c.requires.within
     ∙ ap (λ (z : List Lit). length z * choices (drop (c.args.depth + 1) c.args.circuit.now.groups)) (sym (c.slice-lit-items.ensures ∙ g)))
     c.in_default.not-Refuted c.in_ok-other.ensures
 
-pub explore-loop-lit-preserved : goal.explore-loop-lit-preserved
-explore-loop-lit-preserved t c =
+pub choose-loop-lit-preserved : goal.choose-loop-lit-preserved
+choose-loop-lit-preserved t c =
     let less : c.args.depth < length c.groups_of-groups.result.now = omega (arith, ap length c.groups_of-groups.ensures.value) in
     let g = index_is c.groups_of-groups.result.now c.args.circuit.now.groups c.args.depth c.index-groups-depth.result less c.index-groups-depth.is c.groups_of-groups.ensures.value in
     let P : Step → Type 0 = λ s. Leaves c.loop-lit.walk c.leave.new.walk c.lit-item.result (choices (drop (c.args.depth + 1) c.args.circuit.now.groups)) s in
     Trying-left c.args.walk.now c.loop-lit.walk c.leave.new.walk c.slice-lit-items.result.now c.loop-lit.lit-index (choices (drop (c.args.depth + 1) c.args.circuit.now.groups)) c.lit-item.result
     c.loop-lit.invariant (omega arith) c.lit-item.is
-    (positive_group c.args.circuit.now.groups c.args.depth c.slice-lit-items.result.now c.groups_of-groups.ensures.whole.grouped.positive (omega (arith, ap length c.groups_of-groups.ensures.value)) (c.slice-lit-items.ensures ∙ g))
+    (positive_group c.args.circuit.now.groups c.args.depth c.slice-lit-items.result.now c.groups_of-groups.ensures.whole.grouped.positive c.requires.within (c.slice-lit-items.ensures ∙ g))
+    (none_by (values c.loop-lit.walk.trace.entries c.lit-item.result.var) (sym c.is_open.ensures ∙ (search rules)))
     (subst P c.in-Refuted.is c.in_ok-other.ensures)
 
-pub explore-returns : goal.explore-returns
-explore-returns t c =
+pub choose-settle-requires-clause-indexed : goal.choose-settle-requires-clause-indexed
+choose-settle-requires-clause-indexed t c =
+    index_along c.args.walk.now.checker.formula c.loop-lit.walk.checker.formula c.args.index.now c.loop-lit.invariant.kept.formula c.requires.indexed
+
+pub choose-settle-requires-clause-settled : goal.choose-settle-requires-clause-settled
+choose-settle-requires-clause-settled t c =
+    let Q : ℕ → Type 0 = λ k. AreSettled c.loop-lit.walk.checker.formula (values c.loop-lit.walk.trace.entries) (drop k c.loop-lit.walk.trace.entries) [] in
+    subst Q (sym c.entries-from.ensures) c.loop-lit.invariant.settled
+
+pub choose-returns : goal.choose-returns
+choose-returns t c =
     let less : c.args.depth < length c.groups_of-groups.result.now = omega (arith, ap length c.groups_of-groups.ensures.value) in
     let g = index_is c.groups_of-groups.result.now c.args.circuit.now.groups c.args.depth c.index-groups-depth.result less c.index-groups-depth.is c.groups_of-groups.ensures.value in
     Refuted-group c.args.walk.now c.loop-lit.walk c.settle.new.walk c.refute.new.walk c.args.circuit.now.fixed c.args.circuit.now.required c.args.circuit.now.groups c.index-groups-depth.result
     c.slice-lit-items.result.now c.loop-lit.lit-index c.args.depth c.in_ok-refute-in-Some.field-0 c.groups_of-groups.ensures.whole c.requires.same c.requires.quiet
-    (omega (arith, ap length c.groups_of-groups.ensures.value)) g c.slice-lit-items.ensures c.loop-lit.invariant (omega arith) (omega arith)
+    c.requires.within g c.slice-lit-items.ensures c.loop-lit.invariant (omega arith) (omega arith)
     c.in_ok-conflict.ensures.moved c.in_ok-conflict.ensures.fit c.in_ok-conflict.ensures.grows c.in_ok-refute-in-Some.ensures
 
-pub explore-unreachable-requires : goal.explore-unreachable-requires
-explore-unreachable-requires t c =
+pub choose-unreachable-requires : goal.choose-unreachable-requires
+choose-unreachable-requires t c =
     let less : c.args.depth < length c.groups_of-groups.result.now = omega (arith, ap length c.groups_of-groups.ensures.value) in
     let g = index_is c.groups_of-groups.result.now c.args.circuit.now.groups c.args.depth c.index-groups-depth.result less c.index-groups-depth.is c.groups_of-groups.ensures.value in
     let P : Option ℕ → Type 0 = λ o. IfNone o (is_quiet (values c.settle.new.walk.trace.entries) c.settle.new.walk.checker.formula ≡ true) in
     quiet_group c.settle.new.walk.checker.formula c.args.circuit.now.fixed c.args.circuit.now.required c.args.circuit.now.groups (values c.settle.new.walk.trace.entries) c.args.depth
     c.slice-lit-items.result.now c.groups_of-groups.ensures.whole
     (formula_moved c.loop-lit.walk c.settle.new.walk c.in_ok-conflict.ensures.moved ∙ (c.loop-lit.invariant.kept.formula ∙ c.requires.same))
-    (subst P c.in-None.is c.in_ok-conflict.ensures.quiet) (omega (arith, ap length c.groups_of-groups.ensures.value)) (c.slice-lit-items.ensures ∙ g)
+    (subst P c.in-None.is c.in_ok-conflict.ensures.quiet) c.requires.within (c.slice-lit-items.ensures ∙ g)
     (keeps_false (values c.loop-lit.walk.trace.entries) (values c.settle.new.walk.trace.entries) c.slice-lit-items.result.now
     (extends_grows _ c.loop-lit.walk.trace.entries c.settle.new.walk.trace.entries c.in_ok-conflict.ensures.grows.more c.in_ok-conflict.ensures.grows.joined c.in_ok-conflict.ensures.fit.explained)
     (ap (list_all (is_false (values c.loop-lit.walk.trace.entries))) (sym (take_all c.slice-lit-items.result.now c.loop-lit.lit-index (omega arith))) ∙ c.loop-lit.invariant.tried))
 
 pub leave-attempt-requires : goal.leave-attempt-requires
 leave-attempt-requires t c =
-    let P : Walk → Type 0 = λ w. IsFit w in (
+    let P : Walk → Type 0 = λ w. IsFit w in
+    let same : c.decide.new.walk.checker.formula ≡ c.args.walk.now.checker.formula = formula_moved c.args.walk.now c.decide.new.walk c.in_ok-decide.ensures.moved in (
       omega arith,
       (
         subst P (sym (moved_is c.args.walk.now c.decide.new.walk c.in_ok-decide.ensures.moved))
             (Fit-decide c.args.walk.now c.decide.new.walk.trace c.args.lit c.requires.fit c.requires.fresh c.in_ok-decide.ensures.entries c.in_ok-decide.ensures.moved.size),
         (
-          formula_moved c.args.walk.now c.decide.new.walk c.in_ok-decide.ensures.moved ∙ c.requires.same,
+          same ∙ c.requires.same,
           (
-            decided_decide c.args.walk.now c.decide.new.walk.trace c.args.lit c.args.circuit.now.groups c.args.depth c.requires.fit c.requires.fresh c.in_ok-decide.ensures.entries
-                c.requires.within c.requires.decided c.requires.there,
-            omega (arith, c.requires.within),
+            index_along c.args.walk.now.checker.formula c.decide.new.walk.checker.formula c.args.index.now same c.requires.indexed,
+            (
+              settled_grown c.args.walk.now.checker.formula c.decide.new.walk.checker.formula c.args.walk.now.trace.entries c.decide.new.walk.trace.entries (record { lit = c.args.lit; reason = None })
+                  c.args.from same c.requires.settled c.requires.fresh c.in_ok-decide.ensures.entries c.requires.begun,
+              (
+                decided_decide c.args.walk.now c.decide.new.walk.trace c.args.lit c.args.circuit.now.groups c.args.depth c.requires.fit c.requires.fresh c.in_ok-decide.ensures.entries
+                    c.requires.within c.requires.decided c.requires.there,
+                omega (arith, c.requires.within),
+              ),
+            ),
           ),
         ),
       ),

@@ -1,13 +1,13 @@
 -- The elements of a domain by their ranks.
-use Rattle.std.proofs.Common.{◌≡◌, ◌≢◌, ℕ, zero, suc, ◌+◌, ◌<◌, ◌≤◌, ◌⊎◌, ◌↔◌, List, [], ◌∷◌, length, map, slice_get, Option, Some, None, ℤ, pos, negsuc, ◌+ℤ◌, ◌-ℤ◌, ◌≤ℤ◌, ◌<ℤ◌, Bool as Truth, true, false, if◌then◌else◌, IsNone, unsigned_abs, refl, sym, ap, ◌∙◌, subst, inl, inr, arith}
+use Rattle.std.proofs.Common.{◌≡◌, ℕ, zero, suc, ◌+◌, ◌<◌, ◌≤◌, ◌⊎◌, ◌↔◌, List, [], ◌∷◌, length, map, slice_get, Option, Some, None, ℤ, pos, negsuc, ◌+ℤ◌, ◌-ℤ◌, ◌≤ℤ◌, ◌<ℤ◌, Bool as Truth, true, false, if◌then◌else◌, IsNone, unsigned_abs, refl, sym, ap, ◌∙◌, subst, inl, inr, arith}
 use Rattle.std.proofs.lemmas.List.{length-map}
 use Rattle.std.proofs.lemmas.Int.{ints}
 use Rattle.std.specs.Option.{option_map}
 use Rattle.std.proofs.lemmas.Option.{slice_get_within, slice_get-get_or, get_or_from_slice_get}
 use Rattle.std.specs.List.{Contains}
 use Rattle.asm_domain.specs.declared.value.Value.{Value}
-use Rattle.asm_domain.specs.declared.value.Value.TheVariants.{Undef, Bool, Int, Elem}
-use Rattle.asm_domain.specs.Universe.{Universe, Truths, Numbers, Named, elements, named_from, upwards, above_zero, numbers_between, AreDistinct, MakeDomain, IsRank}
+use Rattle.asm_domain.specs.declared.value.Value.TheVariants.{Bool, Int, Elem}
+use Rattle.asm_domain.specs.Universe.{Truths, elements, named_from, upwards, above_zero, numbers_between, AreDistinct, MakeDomain, IsRank}
 use Rattle.asm_domain.proofs.Distinct.{get-map}
 use Rattle.asm_domain.proofs.Sizes.{size_of_pos}
 

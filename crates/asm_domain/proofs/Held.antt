@@ -1,18 +1,18 @@
 -- A held domain and the elements that it stands for.
-use Rattle.std.proofs.Common.{◌≡◌, ℕ, zero, suc, ◌+◌, ◌<◌, ◌≤◌, ◌↔◌, List, length, map, get_or, slice_get, Option, Some, None, IsNone, ℤ, pos, ◌+ℤ◌, ◌-ℤ◌, ◌≤ℤ◌, refl, sym, ap, ◌∙◌, subst, arith}
+use Rattle.std.proofs.Common.{◌≡◌, ℕ, ◌+◌, ◌<◌, ◌↔◌, List, length, get_or, slice_get, Option, Some, IsNone, ℤ, pos, ◌+ℤ◌, ◌-ℤ◌, ◌≤ℤ◌, sym, ap, ◌∙◌, subst, arith}
 use Rattle.std.proofs.lemmas.Int.{ints}
 use Rattle.std.proofs.lemmas.List.{length-map}
 use Rattle.std.proofs.lemmas.Option.{slice_get-get_or}
 use Rattle.std.specs.List.{Contains}
 use Rattle.std.specs.Option.{option_map}
 use Rattle.asm_domain.specs.declared.value.Value.{Value}
-use Rattle.asm_domain.specs.declared.value.Value.TheVariants.{Bool, Int, Elem}
+use Rattle.asm_domain.specs.declared.value.Value.TheVariants.{Int, Elem}
 use Rattle.asm_domain.specs.declared.domain.Kind.{Kind}
 use Rattle.asm_domain.specs.declared.domain.Kind.TheVariants as kind
 use Rattle.asm_domain.specs.Kinds.{universe_of, IsSound}
-use Rattle.asm_domain.specs.Universe.{Universe, Truths, Numbers, Named, elements, named_from, numbers_between, upwards, above_zero, MakeDomain, IsRank}
+use Rattle.asm_domain.specs.Universe.{Universe, Numbers, Named, elements, numbers_between, above_zero, MakeDomain, IsRank}
 use Rattle.asm_domain.proofs.Distinct.{get-map}
-use Rattle.asm_domain.proofs.Elements.{none_iff, between_makes, numbers_make, names_make, truths_make, length-between, get-between, length-upwards, get-upwards, from_count, length-named_from, get-named_from}
+use Rattle.asm_domain.proofs.Elements.{none_iff, between_makes, numbers_make, names_make, truths_make, length-between, length-upwards, get-upwards, from_count, length-named_from, get-named_from}
 
 -- the rank in a domain that is told by an equal one
 pub ranked : (u u' : Universe) (v : Value) (r : Option ℕ) → u' ≡ u → IsRank (elements u') v r → IsRank (elements u) v r × (IsNone r ↔ ¬ Contains (elements u) v)

@@ -1,5 +1,5 @@
 -- Absolute values, and what a division gives.
-use Rattle.std.proofs.Common.{◌≡◌, ◌≢◌, ℕ, zero, suc, ◌^◌, ◌<◌, ◌≤◌, max, ◌⊎◌, ◌↔◌, ℤ, pos, negsuc, neg_ℤ, ◌≤ℤ◌, ◌<ℤ◌, unsigned_abs, int_div, int_rem, Some, None, Result, Ok, Err, IfOk, IsErr, refl, sym, ap, ◌∙◌, inl, inr, arith}
+use Rattle.std.proofs.Common.{◌≡◌, ℕ, zero, suc, ◌≤◌, max, ◌⊎◌, ◌↔◌, ℤ, pos, negsuc, neg_ℤ, ◌≤ℤ◌, ◌<ℤ◌, unsigned_abs, int_div, int_rem, Some, None, Result, Ok, Err, IfOk, IsErr, refl, sym, ap, ◌∙◌, inl, inr, arith}
 use Rattle.std.proofs.lemmas.Int.{ints}
 use Rattle.std.proofs.lemmas.Bool.{cases_lt}
 use Rattle.std.proofs.Math.Nat.{div-le_self, mod-le}
@@ -7,7 +7,7 @@ use Rattle.asm_domain.specs.declared.interval.Interval.{Interval}
 use Rattle.asm_domain.specs.declared.interval.RangeTooWide.{RangeTooWide}
 use Rattle.asm_domain.specs.Interval.{Spans, HasWide, IsResultOfOne, HasSizeIn, HoldsResults, IsWithin}
 use Rattle.asm_domain.specs.Narrow.{IsNarrowed}
-use Rattle.asm_domain.proofs.Spanning.{AreBounds, decide, wide_between, low_of, high_of}
+use Rattle.asm_domain.proofs.Spanning.{AreBounds, decide, low_of, high_of}
 
 -- to be between two opposite numbers is to have at most their absolute value
 within_size : (n : ℕ) (z : ℤ) → unsigned_abs z ≤ n → (neg_ℤ (pos n) ≤ℤ z) × (z ≤ℤ pos n)

@@ -1,14 +1,13 @@
 -- When two numbers are the bounds of what an operation gives.
-use Rattle.std.proofs.Common.{◌≡◌, ◌≢◌, ℕ, zero, suc, ◌^◌, ◌<◌, ◌≤◌, ◌*◌, ◌+◌, ◌⊎◌, ◌↔◌, ℤ, pos, negsuc, neg_ℤ, ◌≤ℤ◌, ◌+ℤ◌, ◌-ℤ◌, ◌*ℤ◌, unsigned_abs, int_div, int_rem, Option, Some, None, Result, Ok, Err, IfOk, IsErr, IsNone, true, false, refl, sym, ap, ◌∙◌, subst, inl, inr, arith}
+use Rattle.std.proofs.Common.{◌≡◌, ℕ, ◌^◌, ◌<◌, ◌≤◌, ◌⊎◌, ◌↔◌, ℤ, pos, negsuc, neg_ℤ, ◌≤ℤ◌, ◌+ℤ◌, ◌-ℤ◌, unsigned_abs, Option, Some, None, Result, Ok, Err, IfOk, IsErr, IsNone, refl, sym, ◌∙◌, subst, inl, inr, arith}
 use Rattle.std.proofs.lemmas.Int.{ints, clamps, by_lt_z}
-use Rattle.std.specs.Option.{SomeIff, ForSome}
+use Rattle.std.specs.Option.{ForSome}
 use Rattle.std.specs.Int.{int_min, int_max}
 use Rattle.std.specs.Int.Signed.{≤ℤ_refl}
-use Rattle.std.proofs.Math.IntN.{suc_ℤ-*ℤ, *ℤ_comm, *ℤ-negsuc}
 use Rattle.asm_domain.specs.declared.interval.Interval.{Interval}
 use Rattle.asm_domain.specs.declared.interval.RangeTooWide.{RangeTooWide}
 use Rattle.asm_domain.specs.Narrow.{IsNarrowed}
-use Rattle.asm_domain.specs.Interval.{Spans, HasWide, IsResult, IsResultOfOne, IsInEither, HasSizeIn, HoldsResults, IsWithin}
+use Rattle.asm_domain.specs.Interval.{Spans, HasWide, IsResult, IsResultOfOne, IsInEither, IsWithin}
 
 -- all of some numbers stand between two of them
 pub record AreBounds (numbers : ℤ → Type 0) (l h : ℤ) : Type 0 where

@@ -1,5 +1,5 @@
 -- Intervals of whole numbers: which numbers an operation gives, and the interval that spans them.
-use Rattle.std.specs.Prelude.{◌≡◌, ◌≢◌, ℕ, ◌^◌, ◌<◌, ◌⊎◌, ℤ, pos, ◌≤ℤ◌, unsigned_abs}
+use Rattle.std.specs.Prelude.{◌≡◌, ◌≢◌, ◌^◌, ◌<◌, ◌⊎◌, ℤ, pos, ◌≤ℤ◌, unsigned_abs}
 use Rattle.asm_domain.specs.declared.interval.Interval.{Interval}
 
 -- the number stands between the bounds

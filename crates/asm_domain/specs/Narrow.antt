@@ -1,5 +1,5 @@
 -- Numbers that may be bounds of an integer term.
-use Rattle.std.specs.Prelude.{ℕ, ◌^◌, ◌≤◌, ℤ, unsigned_abs, Option, SomeIff}
+use Rattle.std.specs.Prelude.{◌^◌, ◌≤◌, ℤ, unsigned_abs, Option, SomeIff}
 
 -- at most 2^62 in absolute value
 abbrev pub IsNarrow : ℤ → Type 0

@@ -1,5 +1,5 @@
 -- Why items make no domain.
-use Rattle.std.specs.Prelude.{◌≡◌, ℕ, ◌<◌, ◌≤◌, List, [], length, Option, Some, None}
+use Rattle.std.specs.Prelude.{◌≡◌, ◌<◌, ◌≤◌, List, [], length, Option, Some, None}
 use Rattle.asm_domain.specs.declared.error.DomainError.{DomainError}
 use Rattle.asm_domain.specs.declared.error.DomainError.TheVariants.{Empty, TooLarge, Repeated, Memory}
 use Rattle.asm_domain.specs.Universe.{MakeDomain, IsFirstRepeat}

@@ -1,5 +1,5 @@
 -- Ordered finite domains: their elements in order, and what makes a list of elements a domain.
-use Rattle.std.specs.Prelude.{◌≡◌, ℕ, zero, suc, ◌+◌, ◌<◌, ◌≤◌, List, [], ◌∷◌, length, map, take, ℤ, pos, negsuc, ◌+ℤ◌, ◌-ℤ◌, Bool as Truth, true, false, Option, Some, None, slice_get}
+use Rattle.std.specs.Prelude.{◌≡◌, ℕ, zero, suc, ◌<◌, ◌≤◌, List, [], ◌∷◌, length, map, take, ℤ, pos, negsuc, ◌+ℤ◌, ◌-ℤ◌, true, false, Option, Some, None, slice_get}
 use Rattle.asm_domain.specs.declared.value.Value.{Value}
 use Rattle.asm_domain.specs.declared.value.Value.TheVariants.{Bool, Int, Elem}
 

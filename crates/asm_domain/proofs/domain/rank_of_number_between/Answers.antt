@@ -1,4 +1,4 @@
-use Rattle.std.proofs.Common.{◌≡◌, ◌+ℤ◌, ◌≤ℤ◌, pos, inl, inr, to_z, of_z, w64, arith}
+use Rattle.std.proofs.Common.{◌≡◌, ◌≤ℤ◌, inl, inr, to_z, of_z, w64, arith}
 use Rattle.std.proofs.lemmas.Int.{ints}
 use Rattle.asm_domain.proofs.Elements.{between_rank, between_no_rank, gap_is}
 use Rattle.asm_domain.proofs.domain.rank_of_number_between.Goals.{else-low-number-via-then-low-number+else-number-high, else-low-number-via-else-low-number}

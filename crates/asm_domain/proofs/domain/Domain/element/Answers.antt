@@ -1,4 +1,4 @@
-use Rattle.std.proofs.Common.{◌≡◌, ◌+ℤ◌, ◌≤ℤ◌, pos, to_z, of_z, w64, FitsSigned, get_or, rules, refl, sym, ap, ◌∙◌, arith}
+use Rattle.std.proofs.Common.{◌≡◌, ◌+ℤ◌, pos, to_z, of_z, w64, FitsSigned, get_or, rules, refl, sym, ap, ◌∙◌, arith}
 use Rattle.std.proofs.lemmas.Int.{ints}
 use Rattle.asm_domain.specs.declared.value.Value.TheVariants.{Int}
 use Rattle.asm_domain.specs.Kinds.{universe_of}

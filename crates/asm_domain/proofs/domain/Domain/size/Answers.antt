@@ -1,4 +1,4 @@
-use Rattle.std.proofs.Common.{◌≡◌, ◌+◌, ◌≤ℤ◌, length, to_z, of_z, w64, FitsSigned, rules, sym, ap, ◌∙◌, arith}
+use Rattle.std.proofs.Common.{◌≡◌, ◌+◌, length, to_z, of_z, w64, FitsSigned, rules, sym, ap, ◌∙◌, arith}
 use Rattle.std.proofs.lemmas.Int.{ints}
 use Rattle.asm_domain.specs.Kinds.{universe_of}
 use Rattle.asm_domain.specs.Universe.{elements}

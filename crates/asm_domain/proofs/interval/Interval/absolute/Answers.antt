@@ -1,4 +1,4 @@
-use Rattle.std.proofs.Common.{◌≡◌, ◌^◌, ◌≤◌, pos, neg_ℤ, max, unsigned_abs, to_z, of_z, w64, refl, ap, ◌∙◌, arith}
+use Rattle.std.proofs.Common.{◌≡◌, pos, max, unsigned_abs, to_z, of_z, w64, ap, ◌∙◌, arith}
 use Rattle.std.proofs.lemmas.Int.{ints}
 use Rattle.asm_domain.proofs.Spanning.{decide, at_same, narrow_zero}
 use Rattle.asm_domain.proofs.Sizes.{size_across, most_same}

@@ -1,7 +1,7 @@
-use Rattle.std.proofs.Common.{◌+ℤ◌, ◌-ℤ◌, neg_ℤ, pos, arith}
-use Rattle.std.specs.Int.{int_min, int_max}
+use Rattle.std.proofs.Common.{arith}
+use Rattle.std.specs.Int.{int_max}
 use Rattle.std.proofs.lemmas.Int.{ints, clamps}
-use Rattle.asm_domain.proofs.Spanning.{ordered, decide, at_same, sums, differences, lesser, greater, both, opposites}
+use Rattle.asm_domain.proofs.Spanning.{ordered, decide, at_same, greater}
 use Rattle.asm_domain.proofs.interval.Interval.greatest.Goals as goal
 
 pub bounded-requires : goal.bounded-requires

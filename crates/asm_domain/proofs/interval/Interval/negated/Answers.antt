@@ -1,7 +1,6 @@
-use Rattle.std.proofs.Common.{◌+ℤ◌, ◌-ℤ◌, neg_ℤ, pos, arith}
-use Rattle.std.specs.Int.{int_min, int_max}
-use Rattle.std.proofs.lemmas.Int.{ints, clamps}
-use Rattle.asm_domain.proofs.Spanning.{ordered, decide, at_same, sums, differences, lesser, greater, both, opposites}
+use Rattle.std.proofs.Common.{neg_ℤ, arith}
+use Rattle.std.proofs.lemmas.Int.{ints}
+use Rattle.asm_domain.proofs.Spanning.{ordered, decide, at_same, opposites}
 use Rattle.asm_domain.proofs.interval.Interval.negated.Goals as goal
 
 pub bounded-requires : goal.bounded-requires

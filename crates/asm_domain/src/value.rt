@@ -1,7 +1,8 @@
 /// A value of a term or a location.
-#[derive(Clone, Copy, Debug, PartialEq, Eq)]
+#[derive(Clone, Copy, Debug, Default, PartialEq, Eq)]
 pub enum Value {
     /// The value that is no element of any domain.
+    #[default]
     Undef,
     Bool(bool),
     Int(i64),

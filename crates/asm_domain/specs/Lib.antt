@@ -1,0 +1,5 @@
+pub mod Interval
+pub mod Kinds
+pub mod Narrow
+pub mod Refusal
+pub mod Universe

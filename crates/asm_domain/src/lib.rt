@@ -1,0 +1,15 @@
+//! Ordered finite domains, and the intervals of integer terms.
+#![tactic(auto)]
+
+mod domain;
+mod error;
+mod interval;
+mod refusal;
+#[cfg(test)]
+mod tests;
+mod value;
+
+pub use domain::{Domain, Names};
+pub use error::DomainError;
+pub use interval::{Interval, RangeTooWide};
+pub use value::Value;

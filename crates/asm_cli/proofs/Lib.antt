@@ -1,0 +1,4 @@
+pub mod Answering
+pub mod Models
+pub mod Numbers
+pub mod Replying

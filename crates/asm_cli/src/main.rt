@@ -1,0 +1,33 @@
+//! The program: reads Abstract State Machines and runs them.
+#![tactic(auto)]
+
+mod command;
+mod exit;
+mod model;
+mod path;
+mod run;
+mod say;
+#[cfg(test)]
+mod tests;
+mod top;
+mod words;
+
+use crate::exit::Exit;
+use crate::top::asmeta;
+use crate::words::read_words;
+use asm_io::{FolderShelf, OutSink};
+use std::io;
+use std::process::ExitCode;
+
+fn main(rt: HostRuntime) -> ExitCode {
+    let alloc = rt.alloc();
+    let exit = match read_words(alloc, &rt) {
+        Ok(words) => {
+            let mut shelf = FolderShelf::new(&rt);
+            let mut sink = OutSink::new(io::writer(&rt));
+            asmeta(alloc, &words, &mut shelf, &mut sink)
+        }
+        Err(_) => Exit::Memory,
+    };
+    ExitCode::from(exit.status())
+}

@@ -1,0 +1,58 @@
+//! The top call.
+ghost use Rattle.std.specs.Prelude.{◌≡◌, ◌≤◌, ◌↔◌};
+ghost use Rattle.asm_io.specs.Outside.{Told, Rose};
+ghost use Rattle.asm_cli.specs.Exit.{OnCode, OnFault};
+ghost use Rattle.asm_cli.specs.Words.{IsBadWords};
+ghost use Rattle.asm_cli.specs.Answer.{answer, Prints, PrintsPart, HasFileFault, IsDone, IsStopped};
+
+use crate::command::asked;
+use crate::exit::Exit;
+use crate::path::normalised;
+use crate::run::run_file;
+use crate::say::say;
+use asm_io::{Shelf, Sink};
+use asm_list::Name;
+use std::alloc::Global;
+
+/// Does all that the program does, and answers how it ends. The words are those of the command line
+/// without the program's name.
+pub fn asmeta<S: Shelf, K: Sink>(alloc: Global, words: &[Name], shelf: &mut S, sink: &mut K) -> Exit
+    // What is written is what the definitions say of these words and files, or a prefix of it.
+    ensures answer { Told (S.files shelf.old) (λ files. OnCode result (Prints (K.written sink.old) (K.written sink.new) (answer words.now files))) }
+    ensures prefix { Told (S.files shelf.old) (λ files. OnFault result (PrintsPart (K.written sink.old) (K.written sink.new) (answer words.now files))) }
+
+    // Each end has its cause. Want of memory alone is free.
+    ensures read_fault { result ≡ Exit.ReadFault → Rose (S.faults shelf.old) (S.faults shelf.new) }
+    ensures write_fault { result ≡ Exit.WriteFault → Rose (K.faults sink.old) (K.faults sink.new) }
+    ensures bad_words { OnCode result (λ code. (code ≡ 2) ↔ IsBadWords words.now) }
+    ensures file_fault { Told (S.files shelf.old) (λ files. OnCode result (λ code. (code ≡ 3) ↔ HasFileFault words.now files)) }
+    ensures stopped { Told (S.files shelf.old) (λ files. OnCode result (λ code. (code ≡ 4) ↔ IsStopped words.now files)) }
+    ensures done { Told (S.files shelf.old) (λ files. OnCode result (λ code. (code ≡ 0) ↔ IsDone words.now files)) }
+
+    // The shelf's files stay, and no count of faults falls.
+    ensures files { S.files shelf.new ≡ S.files shelf.old }
+    ensures shelf_later { S.faults shelf.old ≤ S.faults shelf.new }
+    ensures sink_later { K.faults sink.old ≤ K.faults sink.new }
+{
+    command(alloc, words, shelf, sink)
+}
+
+/// The command that the words ask. Which code comes where follows from what is printed.
+fn command<S: Shelf, K: Sink>(alloc: Global, words: &[Name], shelf: &mut S, sink: &mut K) -> Exit
+    ensures answer { Told (S.files shelf.old) (λ files. OnCode result (Prints (K.written sink.old) (K.written sink.new) (answer words.now files))) }
+    ensures prefix { Told (S.files shelf.old) (λ files. OnFault result (PrintsPart (K.written sink.old) (K.written sink.new) (answer words.now files))) }
+    ensures read_fault { result ≡ Exit.ReadFault → Rose (S.faults shelf.old) (S.faults shelf.new) }
+    ensures write_fault { result ≡ Exit.WriteFault → Rose (K.faults sink.old) (K.faults sink.new) }
+    ensures bad_words { OnCode result (λ code. (code ≡ 2) ↔ IsBadWords words.now) }
+    ensures files { S.files shelf.new ≡ S.files shelf.old }
+    ensures shelf_later { S.faults shelf.old ≤ S.faults shelf.new }
+    ensures sink_later { K.faults sink.old ≤ K.faults sink.new }
+{
+    match asked(words) {
+        None => say(sink, b"asmeta: bad arguments\n", 2),
+        Some(run) => match normalised(alloc, run.model) {
+            Ok(name) => run_file(alloc, name, run.steps, shelf, sink),
+            Err(_) => Exit::Memory,
+        },
+    }
+}

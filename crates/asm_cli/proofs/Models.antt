@@ -1,12 +1,11 @@
 -- The model that bytes are.
-use Rattle.std.proofs.Common.{◌≡◌, ℕ, ◌≤◌, ◌+◌, List, length, Option, Some, None, Result, Ok, Err, true, false, Bool as Truth, refl, sym, ap, ◌∙◌, subst, arith}
-use Rattle.std.specs.Prelude.{if◌then◌else◌, nat_le, ◌&&◌, ◌<◌, ◌^◌, map, option_map, IfOk}
+use Rattle.std.proofs.Common.{◌≡◌, ℕ, ◌≤◌, List, length, Option, Some, None, Result, Ok, Err, true, false, Bool as Truth, refl, sym, ap, ◌∙◌, subst, arith}
+use Rattle.std.specs.Prelude.{if◌then◌else◌, nat_le, ◌&&◌, ◌<◌, ◌^◌, option_map, IfOk}
 use Rattle.std.proofs.lemmas.List.{length-map}
 use Rattle.asm_fire.specs.declared.rule.Rule.{Rule}
 use Rattle.boolean_run.specs.declared.machine.MachineError.{MachineError}
 use Rattle.std.proofs.lemmas.Bool.Decides.{nat_tests}
 use Rattle.asm_lex.specs.declared.token.Token.{Token}
-use Rattle.asm_lex.specs.declared.error.LexError.{LexError}
 use Rattle.asm_lex.specs.Cut.{cut}
 use Rattle.asm_body.specs.declared.tree.RawUnit.{RawUnit}
 use Rattle.asm_body.specs.declared.error.ParseError.{ParseError}

@@ -1,8 +1,8 @@
 -- Decimal numbers.
-use Rattle.std.proofs.Common.{◌≡◌, ℕ, ◌+◌, ◌*◌, ◌-◌, ◌<◌, ◌≤◌, List, [], ◌∷◌, length, drop, get_or, suc, add-one, drop-cons, arith, refl, sym, ap, ◌∙◌, Option, Some, None, nat_le, nat_lt, true, false, subst}
+use Rattle.std.proofs.Common.{◌≡◌, ℕ, ◌+◌, ◌*◌, ◌-◌, ◌<◌, ◌≤◌, List, [], ◌∷◌, length, drop, get_or, suc, drop-cons, arith, refl, sym, ap, ◌∙◌, None, nat_le, false}
 use Rattle.std.specs.Prelude.{fold}
 use Rattle.std.proofs.lemmas.Bool.Decides.{nat_tests}
-use Rattle.asm_cli.specs.Words.{with_digit, number_of, at_most}
+use Rattle.asm_cli.specs.Words.{with_digit, at_most}
 
 -- more digits make no smaller number
 grows : (n : ℕ) (digits : List ℕ) → n ≤ fold with_digit n digits

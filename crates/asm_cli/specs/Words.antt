@@ -1,5 +1,5 @@
 -- What the words of a command line ask.
-use Rattle.std.specs.Prelude.{◌≡◌, ℕ, ◌+◌, ◌-◌, ◌*◌, Bool, true, false, ◌&&◌, ◌||◌, not, List, [], ◌∷◌, length, if◌then◌else◌, nat_lt, nat_le, nat_eq, Option, Some, None, IsNone, codes, bytes_eq, fold, option_map}
+use Rattle.std.specs.Prelude.{ℕ, ◌+◌, ◌-◌, ◌*◌, Bool, false, ◌&&◌, not, List, [], ◌∷◌, if◌then◌else◌, nat_le, nat_eq, Option, Some, None, IsNone, codes, bytes_eq, fold}
 use Rattle.std.specs.List.{starts_with, list_all}
 use Rattle.asm_cli.specs.declared.command.Run.{Run}
 

@@ -1,6 +1,6 @@
 use Rattle.std.proofs.Common.{◌≡◌, Err, Some, None, ap, sym, ◌∙◌}
 use Rattle.std.specs.FinMap.{get}
-use Rattle.asm_cli.proofs.Replying.{on_code, on_fault, prints_more, part_more, says_of_held, says_of_absent, says_of_long}
+use Rattle.asm_cli.proofs.Replying.{on_code, on_fault, prints_more, part_more, says_of_held, says_of_absent}
 use Rattle.asm_cli.proofs.run.run_file.Goals as goal
 
 pub returns-in-Ok-clause-prefix : goal.returns-in-Ok-clause-prefix

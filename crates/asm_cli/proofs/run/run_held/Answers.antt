@@ -1,6 +1,5 @@
 use Rattle.std.proofs.Common.{Err, List, ℕ, ap, inl, inr, subst}
 use Rattle.asm_cli.specs.Answer.{IsModel, IsNoModel}
-use Rattle.asm_cli.proofs.Models.{model-small}
 use Rattle.asm_cli.proofs.Replying.{replies_more}
 use Rattle.asm_cli.proofs.run.run_held.Goals as goal
 

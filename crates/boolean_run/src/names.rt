@@ -1,5 +1,5 @@
 //! Names as places in the signature.
-ghost use Rattle.std.specs.Prelude.{◌≡◌, find};
+ghost use Rattle.std.specs.Prelude.{◌≡◌, ◌<◌, IfSome, find, length};
 ghost use Rattle.std.specs.Option.{option_copied};
 ghost use Rattle.std.specs.List.{list_all};
 ghost use Rattle.boolean_run.specs.Machine as spec;
@@ -9,7 +9,8 @@ use asm_list::Name;
 
 /// The place of the first function of this name.
 pub fn place_of(names: &[Name], name: &Name) -> Option<usize>
-    ensures { result ≡ spec.place_of names.now name.now }
+    ensures place { result ≡ spec.place_of names.now name.now }
+    ensures within { IfSome result (λ place. place < length names.now) }
 {
     names.iter().position(|known| known.text() == name.text())
 }

@@ -1,5 +1,5 @@
 //! Rules over locations.
-ghost use Rattle.std.specs.Prelude.{◌≡◌, map};
+ghost use Rattle.std.specs.Prelude.{◌≡◌, ◌<◌, ◌^◌, length, map};
 ghost use Rattle.boolean_run.specs.Machine as spec;
 ghost use Rattle.boolean_run.specs.Resolved.{Resolves};
 
@@ -12,19 +12,18 @@ use std::alloc::Global;
 
 /// The location of the function of this name.
 fn place_of(names: &[Name], name: &Name) -> Result<u32, MachineError>
+    requires { length names.now < 2 ^ 32 }
     ensures { Resolves result (spec.place_of names.now name.now) }
 {
     match names::place_of(names, name) {
         None => Err(MachineError::NotBuilt),
-        Some(place) => match u32::try_from(place) {
-            Ok(place) => Ok(place),
-            Err(_) => Err(MachineError::Memory),
-        },
+        Some(place) => Ok(place as u32),
     }
 }
 
 /// The term over locations.
 fn term_of(names: &[Name], term: &RawTerm) -> Result<Term, MachineError>
+    requires { length names.now < 2 ^ 32 }
     ensures { Resolves result (spec.term_of names.now term.now) }
 {
     match &term.kind {
@@ -40,6 +39,7 @@ fn term_of(names: &[Name], term: &RawTerm) -> Result<Term, MachineError>
 /// The rule over locations.
 #[cycle(rule)]
 pub fn rule_of(alloc: Global, names: &[Name], rule: &RawRule) -> Result<Rule, MachineError>
+    requires { length names.now < 2 ^ 32 }
     ensures { Resolves result (spec.rule_of names.now rule.now) }
 {
     match &rule.kind {
@@ -70,6 +70,7 @@ pub fn rule_of(alloc: Global, names: &[Name], rule: &RawRule) -> Result<Rule, Ma
 /// The rules over locations, in their order.
 #[cycle(rule)]
 fn rules_of(alloc: Global, names: &[Name], rules: &[RawRule]) -> Result<Listed<Rule>, MachineError>
+    requires { length names.now < 2 ^ 32 }
     ensures { Resolves result (spec.each_of (map (spec.rule_of names.now) rules.now)) }
 {
     let mut parts = Listed::new(alloc);

@@ -9,6 +9,9 @@ ghost use Rattle.asm_lex.specs.Cut as cut;
 use crate::error::LexError;
 use crate::token::Kind;
 
+/// The greatest number that a token writes, 2 to the power 31.
+const GREATEST_NUMBER: u64 = 2_147_483_648;
+
 /// What stands between tokens, or a token.
 #[derive(Clone, Copy, Debug, PartialEq, Eq)]
 pub enum Piece {
@@ -158,7 +161,7 @@ fn is_too_big(first: u8, digits: &[u8]) -> bool
     let mut value = value_of(first);
     'digits: for digit in digits {
         value = 10 * value + value_of(*digit);
-        if value > 2_147_483_648 {
+        if value > GREATEST_NUMBER {
             return true;
         }
     }

@@ -46,7 +46,7 @@ pub enum Class {
     Colon,
     Assign,
     Equals,
-    /// No token.
+    /// What no text of the grammar has: numbers, variables and other symbols.
     Other,
 }
 
@@ -278,6 +278,6 @@ pub fn class_of(kind: Kind, text: &str) -> Class
     match (class_in(&WORDS, text), kind) {
         (Some(class), _) => class,
         (None, Kind::Word) => name_class(text),
-        (None, Kind::Symbol) => Class::Other,
+        (None, Kind::Variable | Kind::Number | Kind::Symbol) => Class::Other,
     }
 }

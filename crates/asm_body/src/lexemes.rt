@@ -12,7 +12,6 @@ use std::alloc::{AllocError, Global};
 use std::str;
 
 /// The text of the token.
-#[tactic(auto, using(crate::proofs::Ascii::is_text))]
 fn text_of<'t>(text: &'t [u8], token: &Token) -> &'t str
     requires { IsIn text.now token.now }
     ensures { result.now ≡ (token_text text.now token.now).text }

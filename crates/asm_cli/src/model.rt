@@ -27,6 +27,8 @@ fn unit_in(alloc: Global, text: &[u8]) -> Result<RawUnit, MachineError>
     let tokens = match lex(alloc, text) {
         Ok(tokens) => tokens,
         Err(LexError::BadByte(_)) => return Err(MachineError::NotBuilt),
+        Err(LexError::OpenComment(_)) => return Err(MachineError::NotBuilt),
+        Err(LexError::NumberTooBig(_)) => return Err(MachineError::NotBuilt),
         Err(LexError::Memory) => return Err(MachineError::Memory),
     };
     match unit(alloc, text, tokens.slice()) {

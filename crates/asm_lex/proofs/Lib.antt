@@ -1,4 +1,5 @@
 pub mod Words
+pub mod Numbers
 pub mod Pieces
 pub mod Steps
 pub mod Sound

@@ -9,8 +9,8 @@ use crate::token::{Token, Tokens};
 use asm_list::Listed;
 use std::alloc::Global;
 
-/// The tokens of the text, each the longest at its place. Where a byte begins neither a token nor
-/// what separates tokens, the first such byte is the error.
+/// The tokens of the text, each the longest at its place. The error is that of the first place where
+/// no token is taken and nothing that separates tokens.
 pub fn lex(alloc: Global, text: &[u8]) -> Result<Tokens, LexError>
     requires { length text.now ≤ 1048576 }
     ensures { GivesCut result (cut text.now) }
@@ -18,10 +18,9 @@ pub fn lex(alloc: Global, text: &[u8]) -> Result<Tokens, LexError>
     let mut tokens = Listed::new(alloc);
     let mut at = 0usize;
     'pieces: while at < text.len() {
-        match piece_at(text, at) {
-            None => return Err(LexError::BadByte(at as u32)),
-            Some((length, Piece::Gap)) => at += length,
-            Some((length, Piece::Token(kind))) => {
+        match piece_at(text, at)? {
+            (length, Piece::Gap) => at += length,
+            (length, Piece::Token(kind)) => {
                 let to = at + length;
                 tokens.push(Token {
                     kind,

@@ -5,6 +5,10 @@ use asm_list::Listed;
 #[derive(Clone, Copy, Debug, PartialEq, Eq)]
 pub enum Kind {
     Word,
+    /// A word behind `$`.
+    Variable,
+    /// Digits whose number is at most 2,147,483,648.
+    Number,
     Symbol,
 }
 

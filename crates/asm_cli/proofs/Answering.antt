@@ -10,7 +10,7 @@ use Rattle.boolean_run.specs.declared.run.RunEnd.TheVariants.{Done, Stopped}
 use Rattle.boolean_run.specs.Printed.{run_of}
 use Rattle.asm_cli.specs.Path.{normalised}
 use Rattle.asm_cli.specs.Words.{Asked, asked_of}
-use Rattle.asm_cli.specs.Answer.{IsModel, Says, says_asked, says_file, says_held, answer, sources_of, end_code, most_bytes, Reaches, HasFileFault, EndsIn, IsDone, IsStopped}
+use Rattle.asm_cli.specs.Answer.{IsModel, Says, says_asked, says_file, says_held, answer, sources_of, end_code, OneAnswer, most_bytes, Reaches, HasFileFault, EndsIn, IsDone, IsStopped}
 use Rattle.asm_cli.proofs.Models.{same_model}
 
 -- the ways to answer
@@ -119,3 +119,35 @@ module _ (words : List (List ℕ)) (files : Files) where
 
   pub zero_iff : (text : List ℕ) (k : ℕ) → answer words files text k → (k ≡ 0) ↔ IsDone words files
   zero_iff text k a = zero_of k (case_of text k a)
+
+-- ---- there is one answer
+
+one_line : (line t u : List ℕ) (meant k l : ℕ) → Says line meant t k → Says line meant u l → (t ≡ u) × (k ≡ l)
+one_line line t u meant k l a b = (a.text_is ∙ sym b.text_is, a.code_is ∙ sym b.code_is)
+
+module _ (name : List ℕ) (steps : ℕ) (t u : List ℕ) (k l : ℕ) where
+  one_held : (held : List ℕ) → says_held name steps held t k → says_held name steps held u l → (t ≡ u) × (k ≡ l)
+  one_held held (inl a) (inl b) =
+      let m : a.machine ≡ b.machine = same_model held a.machine b.machine a.is_model b.is_model in (
+        a.says.text_is ∙ (λ i. (run_of (m i) (sources_of name held) steps).text) ∙ sym b.says.text_is,
+        a.says.code_is ∙ (λ i. end_code (run_of (m i) (sources_of name held) steps).end) ∙ sym b.says.code_is,
+      )
+  one_held held (inl a) (inr b) = absurd (b.no_model a.machine a.is_model)
+  one_held held (inr a) (inl b) = absurd (a.no_model b.machine b.is_model)
+  one_held held (inr a) (inr b) = one_line (name ++ codes ": not built yet") t u 3 k l a.says b.says
+
+  one_test : (held : List ℕ) (long : Truth) → MatchBool long (Says (name ++ codes ": too long") 3 t k) (says_held name steps held t k)
+      → MatchBool long (Says (name ++ codes ": too long") 3 u l) (says_held name steps held u l) → (t ≡ u) × (k ≡ l)
+  one_test held true a b = one_line (name ++ codes ": too long") t u 3 k l a b
+  one_test held false a b = one_held held a b
+
+  one_file : (o : Option (List ℕ)) → says_file name steps o t k → says_file name steps o u l → (t ≡ u) × (k ≡ l)
+  one_file None a b = one_line (name ++ codes ": no such file") t u 3 k l a b
+  one_file (Some held) a b = one_test held (nat_lt most_bytes (length held)) a b
+
+one_asked : (files : Files) (t u : List ℕ) (k l : ℕ) (o : Option Asked) → says_asked o files t k → says_asked o files u l → (t ≡ u) × (k ≡ l)
+one_asked files t u k l None a b = one_line (codes "asmeta: bad arguments") t u 2 k l a b
+one_asked files t u k l (Some asked) a b = one_file (normalised asked.model) asked.steps t u k l (get files (normalised asked.model)) a b
+
+pub one_answer : OneAnswer
+one_answer words files t u k l a b = one_asked files t u k l (asked_of words) a b

@@ -94,6 +94,10 @@ says_asked (Some asked) files text code = says_file (normalised asked.model) ask
 abbrev pub answer : List (List ℕ) → Files → Saying
 answer words files text code = says_asked (asked_of words) files text code
 
+-- these words print one text over these files, with one code
+abbrev pub OneAnswer : Type 0
+OneAnswer = (words : List (List ℕ)) (files : Files) (t u : List ℕ) (k l : ℕ) → answer words files t k → answer words files u l → (t ≡ u) × (k ≡ l)
+
 -- ---- causes of the codes
 
 -- the file is there and isn't too long, and the words ask for its run

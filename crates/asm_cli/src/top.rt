@@ -3,7 +3,7 @@ ghost use Rattle.std.specs.Prelude.{◌≡◌, ◌≤◌, ◌↔◌};
 ghost use Rattle.asm_io.specs.Outside.{Told, Rose};
 ghost use Rattle.asm_cli.specs.Exit.{OnCode, OnFault};
 ghost use Rattle.asm_cli.specs.Words.{IsBadWords};
-ghost use Rattle.asm_cli.specs.Answer.{answer, Prints, PrintsPart, HasFileFault, IsDone, IsStopped};
+ghost use Rattle.asm_cli.specs.Answer.{answer, OneAnswer, Prints, PrintsPart, HasFileFault, IsDone, IsStopped};
 
 use crate::command::asked;
 use crate::exit::Exit;
@@ -36,6 +36,12 @@ pub fn asmeta<S: Shelf, K: Sink>(alloc: Global, words: &[Name], shelf: &mut S, s
 {
     command(alloc, words, shelf, sink)
 }
+
+/// The law that the words and the files determine what is printed, and the code.
+#[tactic(auto, using(crate::proofs::Answering::one_answer))]
+pub fn one_answer()
+    ensures { OneAnswer }
+{}
 
 /// The command that the words ask. Which code comes where follows from what is printed.
 fn command<S: Shelf, K: Sink>(alloc: Global, words: &[Name], shelf: &mut S, sink: &mut K) -> Exit

@@ -6,3 +6,4 @@ pub mod Term
 pub mod Tree
 pub mod UpdateSet
 pub mod Values
+pub mod Words

@@ -41,6 +41,9 @@ value_from-key (Int (pos n)) = refl
 value_from-key (Int (negsuc n)) = refl
 value_from-key (Elem d k) = refl
 
+abbrev pub value_code : Coded Value
+value_code = code_by (List ℕ) (coded_list coded_ℕ) value_key value_from value_from-key
+
 abbrev pub Pair : Type 0
 Pair = ℕ × Value
 

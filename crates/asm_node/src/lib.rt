@@ -1,12 +1,16 @@
 //! Terms and rules as nodes, and what they mean.
 #![tactic(auto)]
 
+mod input;
 mod operator;
 mod rule;
 mod stop;
 mod term;
+mod words;
 
+pub use input::Input;
 pub use operator::{Op, Quantifier};
 pub use rule::{Rule, RuleKind};
 pub use stop::Stop;
 pub use term::{Binder, Term, TermKind};
+pub use words::Words;

@@ -1,5 +1,6 @@
 pub mod Inputs
 pub mod Listing
+pub mod Pools
 pub mod Rows
 pub mod Shared
 pub mod TermRows

@@ -1,4 +1,6 @@
+pub mod Env
 pub mod Machine
+pub mod Pool
 pub mod RuleTree
 pub mod Step
 pub mod Taking

@@ -1,15 +1,19 @@
 //! Terms and rules as nodes, and what they mean.
 #![tactic(auto)]
 
+mod env;
 mod input;
 mod operator;
+mod pool;
 mod rule;
 mod stop;
 mod term;
 mod words;
 
+pub use env::Env;
 pub use input::Input;
 pub use operator::{Op, Quantifier};
+pub use pool::Pool;
 pub use rule::{Rule, RuleKind};
 pub use stop::Stop;
 pub use term::{Binder, Term, TermKind};

@@ -11,7 +11,8 @@ use Rattle.asm_node.specs.Machine.{Machine, State, Input}
 use Rattle.asm_io.specs.declared.sources.Place.{Place}
 use Rattle.asm_node.specs.Term.{World, Places}
 use Rattle.asm_node.specs.UpdateSet.{UpdateSet, Pair, pair_cmp, agree, override, fired_from, ranked_values, first_two, clash, clash_from}
-use Rattle.asm_node.specs.Taking.{Attempt, Yields, Pick, Bodies, Part, Path, and_then, after_set, fired, taken, outcome, by_words}
+use Rattle.asm_node.specs.declared.path.Step.TheVariants.{Part}
+use Rattle.asm_node.specs.Taking.{Attempt, Yields, Pick, Bodies, Path, and_then, after_set, fired, taken, outcome, by_words}
 use Rattle.asm_node.specs.Step.{world_at, next, ended, after}
 use Rattle.asm_node.proofs.UpdateSets.{pair_total, of_list, of_list-append, of_list-filter, any-items, consistent-list, value_at-list}
 
@@ -55,30 +56,30 @@ override-listed ps qs =
 
 module _ {S : Type 0} (pick : Pick S) (bodies : Bodies S) (path : Path) (w : World) (e : Places) (place : Place) (p q : Rule) (s t r : S) (ps qs : List Pair) where
   abbrev First : Type 0
-  First = taken pick bodies (Part 0 ∷ path) w e p s ≡ Yields (of_list ps) t
+  First = taken pick bodies (path ++ Part 0 ∷ []) w e p s ≡ Yields (of_list ps) t
 
   -- two parts in the same state
-  pub par-listed : First → taken pick bodies (Part 1 ∷ path) w e q t ≡ Yields (of_list qs) r → taken pick bodies path w e (Par place (more p (more q none))) s ≡ Yields (of_list (ps ++ qs)) r
+  pub par-listed : First → taken pick bodies (path ++ Part 1 ∷ []) w e q t ≡ Yields (of_list qs) r → taken pick bodies path w e (Par place (more p (more q none))) s ≡ Yields (of_list (ps ++ qs)) r
   par-listed first second =
-      ap (λ a. and_then a (λ u s. and_then (taken pick bodies (Part 1 ∷ path) w e q s) (λ v s. Yields (set.union (set.union set.empty u) v) s))) first
+      ap (λ a. and_then a (λ u s. and_then (taken pick bodies (path ++ Part 1 ∷ []) w e q s) (λ v s. Yields (set.union (set.union set.empty u) v) s))) first
       ∙ ap (λ a. and_then a (λ v s. Yields (set.union (set.union set.empty (of_list ps)) v) s)) second
       ∙ ap (λ u. Yields (set.union u (of_list qs)) r) (union-listed [] ps) ∙ ap (λ u. Yields u r) (union-listed ps qs)
 
   abbrev after_first : UpdateSet → S → Attempt S UpdateSet
-  after_first u s = after_set u s (λ s. taken pick bodies (Part 1 ∷ path) (fired w u) e q s)
+  after_first u s = after_set u s (λ s. taken pick bodies (path ++ Part 1 ∷ []) (fired w u) e q s)
 
   abbrev later : Truth → Attempt S UpdateSet
-  later b = if b then and_then (taken pick bodies (Part 1 ∷ path) (fired w (of_list ps)) e q t) (λ v s. Yields (override (of_list ps) v) s) else Yields (of_list ps) t
+  later b = if b then and_then (taken pick bodies (path ++ Part 1 ∷ []) (fired w (of_list ps)) e q t) (λ v s. Yields (override (of_list ps) v) s) else Yields (of_list ps) t
 
   -- a second part after an inconsistent first one
   pub seq-alone : First → listed_consistent ps ≡ false → taken pick bodies path w e (Seq place p q) s ≡ Yields (of_list ps) t
   seq-alone first clash = ap (λ a. and_then a after_first) first ∙ ap later (consistent-list ps ∙ clash)
 
   -- a second part in the state after the first
-  pub seq-listed : First → listed_consistent ps ≡ true → taken pick bodies (Part 1 ∷ path) (record w { state = listed_fire ps 0 w.state }) e q t ≡ Yields (of_list qs) r → taken pick bodies path w e (Seq place p q) s ≡ Yields (of_list (listed_override ps qs)) r
+  pub seq-listed : First → listed_consistent ps ≡ true → taken pick bodies (path ++ Part 1 ∷ []) (record w { state = listed_fire ps 0 w.state }) e q t ≡ Yields (of_list qs) r → taken pick bodies path w e (Seq place p q) s ≡ Yields (of_list (listed_override ps qs)) r
   seq-listed first agrees second =
       ap (λ a. and_then a after_first) first ∙ ap later (consistent-list ps ∙ agrees)
-      ∙ ap (λ a. and_then a (λ v s. Yields (override (of_list ps) v) s)) (ap (λ state. taken pick bodies (Part 1 ∷ path) (record w { state = state }) e q t) (fire-listed ps 0 w.state agrees) ∙ second)
+      ∙ ap (λ a. and_then a (λ v s. Yields (override (of_list ps) v) s)) (ap (λ state. taken pick bodies (path ++ Part 1 ∷ []) (record w { state = state }) e q t) (fire-listed ps 0 w.state agrees) ∙ second)
       ∙ ap (λ u. Yields u r) (override-listed ps qs)
 
 module _ (m : Machine) (s : State) (i : Input) (words : List ℕ) (rule : Rule) (ps : List Pair) (left : List ℕ) where

@@ -16,7 +16,8 @@ use Rattle.asm_node.specs.RuleTree.{Rule, Skip, Update, Par, Seq, If, Let, Choos
 use Rattle.asm_node.specs.Machine.{Machine, Macro, State, no_input}
 use Rattle.asm_node.specs.Term.{World, nowhere, put}
 use Rattle.asm_node.specs.UpdateSet.{Pair}
-use Rattle.asm_node.specs.Taking.{Yields, Called, Bound, Part, stand_for, bodies_within, outcome, by_words}
+use Rattle.asm_node.specs.declared.path.Step.TheVariants.{Called, Bound, Part}
+use Rattle.asm_node.specs.Taking.{Yields, stand_for, bodies_within, outcome, by_words}
 use Rattle.asm_node.specs.Step.{world_at, next}
 use Rattle.asm_node.proofs.UpdateSets.{of_list}
 use Rattle.asm_node.proofs.Listing.{par-listed, seq-alone, seq-listed, clashes, goes_on}

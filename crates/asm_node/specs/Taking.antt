@@ -7,6 +7,8 @@ use Rattle.asm_domain.specs.declared.value.Value.{Value}
 use Rattle.asm_sign.specs.declared.function.Function.{Function}
 use Rattle.asm_node.specs.declared.stop.Stop.{Stop}
 use Rattle.asm_node.specs.declared.stop.Stop.TheVariants.{Input, UndefGuard, BadArgument, BadValue, Choice}
+use Rattle.asm_node.specs.declared.path.Step.{Step}
+use Rattle.asm_node.specs.declared.path.Step.TheVariants.{Part, Called, Bound}
 use Rattle.asm_node.specs.declared.term.Binder.{Binder}
 use Rattle.asm_node.specs.Tree.{Const, Trees, more as more_terms, Within}
 use Rattle.asm_node.specs.RuleTree.{Rule, Rules, Skip, Update, Par, Seq, If, Let, Forall, Choose, Call, none, more}
@@ -15,13 +17,7 @@ use Rattle.asm_node.specs.Machine.{Macro, slot_at, tuples_of}
 use Rattle.asm_node.specs.Term.{World, Outcome, Gives, Needs, val, vals, branch, Places, nowhere, put, put_tuple, close}
 use Rattle.asm_node.specs.UpdateSet.{UpdateSet, one, consistent, override, fire}
 
--- a step on the way to a part of a rule: a part by its number, a macro's body, or a body under bound values
-pub data Step : Type 0 where
-  Part : (number : ℕ) → Step
-  Called : (rule : ℕ) → Step
-  Bound : (values : List Value) → Step
-
--- the way to a part of a rule, the newest step first
+-- the way to a part of a rule: parts by their numbers, macros' bodies, and bodies under bound values
 abbrev pub Path : Type 0
 Path = List Step
 
@@ -114,28 +110,28 @@ module _ {S : Type 0} where
         evaluated (vals w e ts) s (λ vs. update w place f (slice_get w.machine.signature.functions f) vs (val w e t) s)
     taken pick bodies path w e (Par place rs) s = taken_all pick bodies path 0 w e rs set.empty s
     taken pick bodies path w e (Seq place p q) s =
-        and_then (taken pick bodies (Part 0 ∷ path) w e p s) (λ u s.
-        after_set u s (λ s. taken pick bodies (Part 1 ∷ path) (fired w u) e q s))
+        and_then (taken pick bodies (path ++ Part 0 ∷ []) w e p s) (λ u s.
+        after_set u s (λ s. taken pick bodies (path ++ Part 1 ∷ []) (fired w u) e q s))
     taken pick bodies path w e (If place g p q) s =
         evaluated (val w e g) s (λ v.
-        branch v (taken pick bodies (Part 0 ∷ path) w e p s) (taken pick bodies (Part 1 ∷ path) w e q s) (Faults (UndefGuard place) s))
+        branch v (taken pick bodies (path ++ Part 0 ∷ []) w e p s) (taken pick bodies (path ++ Part 1 ∷ []) w e q s) (Faults (UndefGuard place) s))
     taken pick bodies path w e (Let place x t p) s =
-        evaluated (val w e t) s (λ v. taken pick bodies (Bound (v ∷ []) ∷ path) w (put x (Const v) e) p s)
+        evaluated (val w e t) s (λ v. taken pick bodies (path ++ Bound (v ∷ []) ∷ []) w (put x (Const v) e) p s)
     taken pick bodies path w e (Forall place bs g p) s =
-        each (λ vs s. guarded place (val w (put_tuple bs vs e) g) (taken pick bodies (Bound vs ∷ path) w (put_tuple bs vs e) p s) s)
+        each (λ vs s. guarded place (val w (put_tuple bs vs e) g) (taken pick bodies (path ++ Bound vs ∷ []) w (put_tuple bs vs e) p s) s)
         (tuples_of w.machine.signature bs) set.empty s
     taken pick bodies path w e (Choose place bs g p q) s =
         and_then (candidates place (λ vs. val w (put_tuple bs vs e) g) (tuples_of w.machine.signature bs) [] s) (λ found s.
         chosen found
-        (and_then (pick path place found s) (λ vs s. taken pick bodies (Bound vs ∷ path) w (put_tuple bs vs e) p s))
-        (taken pick bodies (Part 1 ∷ path) w e q s))
-    taken pick bodies path w e (Call place f ts) s = bodies f (Called f ∷ path) w e ts s
+        (and_then (pick path place found s) (λ vs s. taken pick bodies (path ++ Bound vs ∷ []) w (put_tuple bs vs e) p s))
+        (taken pick bodies (path ++ Part 1 ∷ []) w e q s))
+    taken pick bodies path w e (Call place f ts) s = bodies f (path ++ Called f ∷ []) w e ts s
 
     -- the union of what the parts from number k on give in order, after the set so far
     pub taken_all : Pick S → Bodies S → Path → ℕ → World → Places → Rules → UpdateSet → S → Attempt S UpdateSet
     taken_all pick bodies path k w e none u s = Yields u s
     taken_all pick bodies path k w e (more r rs) u s =
-        and_then (taken pick bodies (Part k ∷ path) w e r s) (λ v s. taken_all pick bodies path (suc k) w e rs (set.union u v) s)
+        and_then (taken pick bodies (path ++ Part k ∷ []) w e r s) (λ v s. taken_all pick bodies path (suc k) w e rs (set.union u v) s)
 
   abbrev pub body_taken : Pick S → Bodies S → Path → World → Places → Option Macro → Trees → S → Attempt S UpdateSet
   body_taken pick bodies path w e (Some m) ts s = taken pick bodies path w (stand_for m.parameters e ts) m.body s

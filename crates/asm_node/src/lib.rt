@@ -4,15 +4,19 @@
 mod env;
 mod input;
 mod operator;
+mod path;
 mod pool;
 mod rule;
 mod stop;
 mod term;
+#[cfg(test)]
+mod tests;
 mod words;
 
 pub use env::Env;
 pub use input::Input;
 pub use operator::{Op, Quantifier};
+pub use path::{Path, Step, Values};
 pub use pool::Pool;
 pub use rule::{Rule, RuleKind};
 pub use stop::Stop;

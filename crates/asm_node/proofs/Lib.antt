@@ -1,3 +1,4 @@
+pub mod Extending
 pub mod Inputs
 pub mod Listing
 pub mod Pools

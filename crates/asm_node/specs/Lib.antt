@@ -1,0 +1,11 @@
+pub mod Env
+pub mod Machine
+pub mod Pool
+pub mod RuleTree
+pub mod Step
+pub mod Taking
+pub mod Term
+pub mod Tree
+pub mod UpdateSet
+pub mod Values
+pub mod Words

@@ -1,0 +1,24 @@
+//! Terms and rules as nodes, and what they mean.
+#![tactic(auto)]
+
+mod env;
+mod input;
+mod operator;
+mod path;
+mod pool;
+mod rule;
+mod stop;
+mod term;
+#[cfg(test)]
+mod tests;
+mod words;
+
+pub use env::Env;
+pub use input::Input;
+pub use operator::{Op, Quantifier};
+pub use path::{Path, Step, Values};
+pub use pool::Pool;
+pub use rule::{Rule, RuleKind};
+pub use stop::Stop;
+pub use term::{Binder, Term, TermKind};
+pub use words::Words;

@@ -1,0 +1,7 @@
+//! Update sets: what a rule gives, and how a state takes it.
+#![tactic(auto)]
+
+mod order;
+mod updates;
+
+pub use updates::Updates;

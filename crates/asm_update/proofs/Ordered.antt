@@ -96,7 +96,7 @@ of_list-insert ps place p =
     ∙ set.same_set pair_total pair_apart _ _ (λ r.
     set.contains-from_list pair_total (p ∷ ps) r ∙ sym (set.contains-insert pair_total (of_list ps) p r ∙ ap (λ b. eq_by_cmp pair_cmp r p || b) (set.contains-from_list pair_total ps r)))
 
-any_at_place : (test : Pair → Truth) (ps : List Pair) (k : ℕ) (d : Pair) → k < length ps → test (get_or ps k d) ≡ true → list_any test ps ≡ true
+pub any_at_place : (test : Pair → Truth) (ps : List Pair) (k : ℕ) (d : Pair) → k < length ps → test (get_or ps k d) ≡ true → list_any test ps ≡ true
 any_at_place test [] k d lt is = absurd (omega (arith, lt))
 any_at_place test (q ∷ ps) zero d lt is = ap (λ b. b || list_any test ps) is
 any_at_place test (q ∷ ps) (suc k) d lt is = ap (λ b. test q || b) (any_at_place test ps k d (omega (arith, lt)) is) ∙ or_true (test q)

@@ -1,13 +1,16 @@
-ghost use Rattle.std.specs.Prelude.{◌≡◌, ℕ, ◌<◌, ◌≤◌, not, [], length, filter, OnOk, OnErr, IsTrue, ◌↔◌, slice_index_or, vec_len, vec_capacity, nat_eq};
+ghost use Rattle.std.specs.Prelude.{◌≡◌, true, false, ℕ, ◌<◌, ◌≤◌, not, [], length, filter, OnOk, OnErr, IsTrue, ◌↔◌, slice_index_or, vec_len, vec_capacity, nat_eq};
+ghost use Rattle.std.specs.FinMap as map;
 ghost use Rattle.std.specs.FinSet as set;
 ghost use Rattle.std.specs.List.{list_any, IsDistinct};
 ghost use Rattle.std.specs.List.Sorted.{IsStrictlySortedBy, IsPermutation, IsSorted};
 ghost use Rattle.std.specs.Ordering.{eq_by_cmp};
-ghost use Rattle.asm_node.specs.UpdateSet.{touches, override, pair_cmp, UpdateSet};
+ghost use Rattle.asm_node.specs.UpdateSet.{consistent, touches, override, pair_cmp, UpdateSet};
+ghost use Rattle.asm_update.specs.Applied.{IsOfSlots, IsFired, HaveSlots, put_in};
 ghost use Rattle.asm_update.specs.Order.{rank_cmp, AreBefore, AreNotBefore};
 
 use crate::order::order;
 use asm_domain::Value;
+use asm_state::Store;
 use std::alloc::{AllocError, Global};
 use std::marker::Model;
 
@@ -86,11 +89,31 @@ impl Updates {
         Ok(())
     }
 
+    /// Puts the values of a consistent set in the store. No other slot changes.
+    pub fn apply<S: Store>(&self, store: &mut S)
+        requires consistent { consistent self.now ≡ true }
+        requires slots { IsOfSlots self.now (S.state store.old) }
+        ensures fired { IsFired self.now (S.state store.old) (S.state store.new) }
+        ensures others { (slot : ℕ) → touches self.now slot ≡ false → map.get (S.state store.new) slot ≡ map.get (S.state store.old) slot }
+    {
+        put_in(&self.pairs, store);
+    }
+
     /// Whether the set has a pair of the slot.
     fn touches(&self, slot: u32) -> bool
         ensures { result ≡ touches self.now slot }
     {
         has_slot(&self.pairs, slot)
+    }
+}
+
+/// Puts pairs in, one after the other.
+fn put_in<S: Store>(pairs: &[(u32, Value)], store: &mut S)
+    requires { HaveSlots pairs.now (S.state store.old) }
+    ensures { S.state store.new ≡ put_in (S.state store.old) pairs.now }
+{
+    for pair in pairs {
+        store.put(pair.0, pair.1);
     }
 }
 

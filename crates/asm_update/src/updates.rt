@@ -4,12 +4,15 @@ ghost use Rattle.std.specs.FinSet as set;
 ghost use Rattle.std.specs.List.{list_any, IsDistinct};
 ghost use Rattle.std.specs.List.Sorted.{IsStrictlySortedBy, IsPermutation, IsSorted};
 ghost use Rattle.std.specs.Ordering.{eq_by_cmp};
-ghost use Rattle.asm_node.specs.UpdateSet.{consistent, touches, override, pair_cmp, UpdateSet};
+ghost use Rattle.asm_node.specs.UpdateSet.{clash, consistent, touches, override, pair_cmp, UpdateSet};
 ghost use Rattle.asm_update.specs.Applied.{IsOfSlots, IsFired, HaveSlots, put_in};
 ghost use Rattle.asm_update.specs.Order.{rank_cmp, AreBefore, AreNotBefore};
 
+use crate::clash::first_clash;
 use crate::order::order;
+use crate::place::place_of;
 use asm_domain::Value;
+use asm_sign::Signature;
 use asm_state::Store;
 use std::alloc::{AllocError, Global};
 use std::marker::Model;
@@ -99,6 +102,13 @@ impl Updates {
         put_in(&self.pairs, store);
     }
 
+    /// The least slot with two values in the set, and its two least values by rank, `undef` before all others.
+    pub fn clash(&self, signature: &Signature) -> Option<(u32, Value, Value)>
+        ensures { result ≡ clash signature.now self.now }
+    {
+        first_clash(&self.pairs, signature)
+    }
+
     /// Whether the set has a pair of the slot.
     fn touches(&self, slot: u32) -> bool
         ensures { result ≡ touches self.now slot }
@@ -115,16 +125,6 @@ fn put_in<S: Store>(pairs: &[(u32, Value)], store: &mut S)
     for pair in pairs {
         store.put(pair.0, pair.1);
     }
-}
-
-/// How many pairs are before a pair in the order.
-fn place_of(pairs: &[(u32, Value)], pair: (u32, Value)) -> usize
-    requires { IsStrictlySortedBy rank_cmp pairs.now }
-    ensures within { result ≤ length pairs.now }
-    ensures before { AreBefore pair pairs.now result }
-    ensures after { AreNotBefore pair pairs.now result }
-{
-    pairs.partition_point(|other| order(*other, pair).is_lt())
 }
 
 fn has_slot(pairs: &[(u32, Value)], slot: u32) -> bool

@@ -3,7 +3,7 @@ use Rattle.std.specs.Ordering.{is_lt}
 use Rattle.std.proofs.lemmas.List.Sorted.{IsPartitionPoint-from_clause}
 use Rattle.asm_update.specs.Order.{rank_cmp}
 use Rattle.asm_update.proofs.Ordered.{rank_partitions, less_is}
-use Rattle.asm_update.proofs.updates.place_of.Goals as goal
+use Rattle.asm_update.proofs.place.place_of.Goals as goal
 
 pub returns-clause-before : goal.returns-clause-before
 returns-clause-before c =

@@ -1,5 +1,9 @@
+ghost use Rattle.std.specs.Prelude.{◌≡◌, []};
+
 use crate::Updates;
-use asm_domain::Value;
+use asm_domain::{Domain, Value};
+use asm_list::{Listed, Name};
+use asm_sign::{DeclaredDomain, Domains, FunKind, Function, Functions, Signature};
 use std::alloc::{AllocError, Global};
 use std::test::Fail;
 
@@ -56,6 +60,46 @@ fn unions_and_overrides(rt: HostRuntime) -> Result<(), Fail> {
         let mut sequence = set_of(rt.alloc(), &earlier)?;
         sequence.override_by(&second)?;
         assert_eq!(rt; sequence.pairs(), overridden);
+    }
+    Ok(())
+}
+
+fn controlled(alloc: Global) -> Function
+    ensures { (result.domains ≡ []) × (result.codomain ≡ 0) }
+{
+    Function {
+        name: Name::new(alloc),
+        kind: FunKind::Controlled,
+        domains: Listed::new(alloc),
+        codomain: 0,
+    }
+}
+
+// Two controlled locations that have truth values.
+fn truths(alloc: Global) -> Result<Signature, AllocError> {
+    let domain = Domain::boolean();
+    let domains = Domains::from_vec(vec![in alloc; DeclaredDomain { name: None, domain }]?);
+    let functions = Functions::from_vec(vec![in alloc; controlled(alloc), controlled(alloc)]?);
+    Signature::new(alloc, domains, functions)
+}
+
+#[test]
+fn a_clash_has_the_two_least_values(rt: HostRuntime) -> Result<(), Fail> {
+    let signature = truths(rt.alloc())?;
+    for (updates, clash) in [
+        ([(0, YES), (1, NO), (0, YES)], None),
+        ([(1, YES), (1, NO), (0, YES)], Some((1, NO, YES))),
+        (
+            [(1, YES), (1, NO), (1, Value::Undef)],
+            Some((1, Value::Undef, NO)),
+        ),
+        (
+            [(0, YES), (1, NO), (0, Value::Undef)],
+            Some((0, Value::Undef, YES)),
+        ),
+    ] {
+        let set = set_of(rt.alloc(), &updates)?;
+        assert_eq!(rt; set.clash(&signature), clash);
     }
     Ok(())
 }

@@ -1,0 +1,11 @@
+//! Update sets: what a rule gives, and how a state takes it.
+#![tactic(auto)]
+
+mod clash;
+mod order;
+mod place;
+#[cfg(test)]
+mod tests;
+mod updates;
+
+pub use updates::Updates;

@@ -1,4 +1,4 @@
-ghost use Rattle.std.specs.Prelude.{◌≡◌, true, false, ℕ, ◌<◌, ◌≤◌, not, [], length, filter, OnOk, OnErr, IsTrue, ◌↔◌, slice_index_or, vec_len, vec_capacity, nat_eq};
+ghost use Rattle.std.specs.Prelude.{◌≡◌, true, false, ℕ, ◌<◌, ◌≤◌, not, [], length, filter, OnOk, OnErr, IsNone, ◌↔◌, slice_index_or, vec_len, vec_capacity, nat_eq};
 ghost use Rattle.std.specs.FinMap as map;
 ghost use Rattle.std.specs.FinSet as set;
 ghost use Rattle.std.specs.List.{list_any, IsDistinct};
@@ -6,6 +6,7 @@ ghost use Rattle.std.specs.List.Sorted.{IsStrictlySortedBy, IsPermutation, IsSor
 ghost use Rattle.std.specs.Ordering.{eq_by_cmp};
 ghost use Rattle.asm_node.specs.UpdateSet.{clash, consistent, touches, override, pair_cmp, UpdateSet};
 ghost use Rattle.asm_update.specs.Applied.{IsOfSlots, IsFired, HaveSlots, put_in};
+ghost use Rattle.asm_update.specs.Clash.{HaveLocations};
 ghost use Rattle.asm_update.specs.Order.{rank_cmp, AreBefore, AreNotBefore};
 
 use crate::clash::first_clash;
@@ -104,7 +105,9 @@ impl Updates {
 
     /// The least slot with two values in the set, and its two least values by rank, `undef` before all others.
     pub fn clash(&self, signature: &Signature) -> Option<(u32, Value, Value)>
-        ensures { result ≡ clash signature.now self.now }
+        ensures clash { result ≡ clash signature.now self.now }
+        ensures consistent { consistent self.now ≡ true → IsNone result }
+        ensures inconsistent { HaveLocations signature.now self.now → IsNone result → consistent self.now ≡ true }
     {
         first_clash(&self.pairs, signature)
     }

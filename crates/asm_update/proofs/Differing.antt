@@ -4,7 +4,7 @@ use Rattle.std.specs.Ordering.{eq_by_cmp, is_eq}
 use Rattle.std.specs.Cmp.{tied_itself}
 use Rattle.std.specs.FinSet as set
 use Rattle.std.specs.List.{list_any, list_all, filter}
-use Rattle.std.proofs.lemmas.Bool.{cases_eq}
+use Rattle.std.proofs.lemmas.Bool.{cases_eq, cases_lt, ne_eqb}
 use Rattle.std.proofs.lemmas.Cmp.{int_cmp_total}
 use Rattle.std.proofs.lemmas.Map.Views.{tells_apart}
 use Rattle.asm_domain.specs.declared.value.Value.{Value}
@@ -14,9 +14,12 @@ use Rattle.asm_sign.specs.Vocabulary.{Vocabulary, locations, function_at}
 use Rattle.asm_node.specs.Values.{same}
 use Rattle.asm_node.specs.UpdateSet.{Pair, UpdateSet, pair_cmp, agree, consistent, ranked_values, values_at, first_two, clash_from, clash}
 use Rattle.asm_node.proofs.UpdateSets.{pair_total, pair_apart, of_list, consistent-list}
-use Rattle.asm_update.specs.Clash.{first_pair, HaveLocations}
+use Rattle.asm_update.specs.Clash.{first_pair, HaveLocations, HasAtMostOne}
+use Rattle.asm_update.specs.Order.{rank_cmp, AreBelow, AreNotBelow}
+use Rattle.std.specs.List.Sorted.{IsStrictlySortedBy}
 use Rattle.asm_update.proofs.Putting.{same_is}
-use Rattle.asm_update.proofs.Clashes.{IsQuiet}
+use Rattle.asm_update.proofs.Ordered.{any_at_place}
+use Rattle.asm_update.proofs.Clashes.{IsQuiet, slots_rise}
 
 no_undef_named : (number rank : ℕ) (names : List (List ℕ)) (j : ℕ) → slice_get (named_from number rank names) j ≡ Some Undef → ⊥
 no_undef_named number rank [] j is = cc is
@@ -189,3 +192,67 @@ consistent_without_clash signature ps located none =
 pub none_is : {A : Type 0} (o : Option A) → IsNone o → o ≡ None
 none_is None none = refl
 none_is (Some x) none = absurd (true≢false none)
+
+-- a slot of at most one value is quiet
+pub alone_quiet : (signature : Vocabulary) (ps : List Pair) (l : ℕ) → HasAtMostOne (of_list ps) l → (c : Universe) → ranked_values signature (function_at signature l) ≡ Undef ∷ elements c → AreDistinct (elements c) → IsQuiet signature (of_list ps) l
+alone_quiet signature ps l one c ranked distinct =
+    elim (first_pair (values_at signature (of_list ps) l)) as (λ o. first_pair (values_at signature (of_list ps) l) ≡ o → o ≡ None) [
+      | None ↦ λ _. refl
+      | Some p ↦ λ two.
+          let test : Value → Truth = λ x. set.contains (of_list ps) (l, x) in
+          let r = filtered_differ test (Undef ∷ elements c) (ranked_distinct c distinct) p.0 p.1 (ap (λ xs. first_pair (filter test xs)) (sym ranked) ∙ two) in
+          absurd (r.2 (one p.0 p.1 r.0 r.1))
+    ] refl
+
+place_in : (ps : List Pair) (p d : Pair) → list_any (eq_by_cmp pair_cmp p) ps ≡ true → (k : ℕ) × (k < length ps) × (get_or ps k d ≡ p)
+place_in [] p d is = absurd (true≢false (sym is))
+place_in (q ∷ ps) p d is =
+    elim (eq_by_cmp pair_cmp p q) as (λ b. eq_by_cmp pair_cmp p q ≡ b → (b || list_any (eq_by_cmp pair_cmp p) ps) ≡ true → (k : ℕ) × (k < suc (length ps)) × (get_or (q ∷ ps) k d ≡ p)) [
+      | true ↦ λ tie _. (zero, omega arith, sym (tells_apart pair_apart p q tie))
+      | false ↦ λ _ rest. let r = place_in ps p d rest in (suc r.0, omega (arith, r.1), r.2)
+    ] refl is
+
+module _ (ps : List Pair) (l : ℕ) (place : ℕ) (sorted : IsStrictlySortedBy rank_cmp ps) (below : AreBelow l ps place) (not_below : AreNotBelow l ps place) where
+  -- a slot whose first place is followed by another slot's has at most one value
+  pub at_most_one : (d : Pair) → (place + 1 < length ps → (get_or ps (place + 1) d).0 ≡ l → ⊥) → HasAtMostOne (of_list ps) l
+  at_most_one d other v w has_v has_w =
+      let i = place_in ps (l, v) d (sym (set.contains-from_list pair_total ps (l, v)) ∙ has_v) in
+      let j = place_in ps (l, w) d (sym (set.contains-from_list pair_total ps (l, w)) ∙ has_w) in
+      let e : ◌≡◌ {A = Pair} (l, v) (l, w) = sym i.2 ∙ ap (λ k. get_or ps k d) (only i.0 i.1 (ap (λ p. p.0) i.2) ∙ sym (only j.0 j.1 (ap (λ p. p.0) j.2))) ∙ j.2 in
+      ap (λ p. p.1) e
+    where
+      only : (k : ℕ) → k < length ps → (get_or ps k d).0 ≡ l → k ≡ place
+      only k lt is =
+          ⊎_elim
+          (λ less. let b = below k d less in absurd (omega (arith, b, is)))
+          (λ ge. ⊎_elim
+          (λ e. e)
+          (λ apart.
+          let rises = slots_rise ps (place + 1) k d sorted (omega (arith, ge, apart)) lt in
+          let above = not_below (place + 1) d (omega arith) (omega (arith, ge, apart, lt)) in
+          absurd (other (omega (arith, ge, apart, lt)) (omega (arith, rises, above, is))))
+          (cases_eq k place))
+          (cases_lt k place)
+
+  -- a slot that isn't at its place is none of a pair's
+  pub no_slot : (d : Pair) → (place < length ps → (get_or ps place d).0 ≡ l → ⊥) → list_any (λ p. nat_eq p.0 l) ps ≡ false
+  no_slot d other = any_false ps (λ k lt is.
+      ⊎_elim
+      (λ less. let b = below k d less in omega (arith, b, is))
+      (λ ge.
+      let rises = slots_rise ps place k d sorted ge lt in
+      let above = not_below place d (omega arith) (omega (arith, ge, lt)) in
+      other (omega (arith, ge, lt)) (omega (arith, rises, above, is)))
+      (cases_lt k place))
+    where
+      any_false : (qs : List Pair) → ((k : ℕ) → k < length qs → (get_or qs k d).0 ≡ l → ⊥) → list_any (λ p. nat_eq p.0 l) qs ≡ false
+      any_false [] none = refl
+      any_false (q ∷ qs) none =
+          ap (λ b. b || list_any (λ p. nat_eq p.0 l) qs) (ne_eqb q.0 l (none zero (omega arith))) ∙ any_false qs (λ k lt. none (suc k) (omega (arith, lt)))
+
+  pub slot_here : (d : Pair) → place < length ps → nat_eq (get_or ps place d).0 l ≡ list_any (λ p. nat_eq p.0 l) ps
+  slot_here d lt =
+      elim (nat_eq (get_or ps place d).0 l) as (λ b. nat_eq (get_or ps place d).0 l ≡ b → b ≡ list_any (λ p. nat_eq p.0 l) ps) [
+        | true ↦ λ is. sym (any_at_place (λ p. nat_eq p.0 l) ps place d lt is)
+        | false ↦ λ isnt. sym (no_slot d (λ _ is. true≢false (sym (eq-eqb (get_or ps place d).0 l is) ∙ isnt)))
+      ] refl

@@ -13,3 +13,7 @@ first_pair _ = None
 -- each pair of a set is of a location of the vocabulary, and its value is one that the location may have
 abbrev pub HaveLocations : Vocabulary → UpdateSet → Type 0
 HaveLocations signature u = (l : ℕ) (v : Value) → contains u (l, v) ≡ true → (l < length (locations signature)) × Contains (ranked_values signature (function_at signature l)) v
+
+-- a set has no two values at a slot
+abbrev pub HasAtMostOne : UpdateSet → ℕ → Type 0
+HasAtMostOne u l = (v w : Value) → contains u (l, v) ≡ true → contains u (l, w) ≡ true → v ≡ w

@@ -7,7 +7,7 @@ ghost use Rattle.asm_update.specs.Clash.{first_pair};
 ghost use Rattle.asm_update.specs.Order.{rank_cmp};
 
 use crate::order::order;
-use crate::place::place_of;
+use crate::place::{has_two, place_of};
 use asm_domain::Value;
 use asm_sign::Signature;
 
@@ -35,8 +35,12 @@ fn two_least(pairs: &[(u32, Value)], slot: u32, signature: &Signature) -> Option
     ensures consistent { consistent (set.from_list {R = pair_cmp} pairs.now) ≡ true → IsNone result }
 {
     let codomain = signature.codomain(slot);
+    let size = codomain.size();
+    if !has_two(pairs, slot) {
+        return None;
+    }
     let mut first = has(pairs, (slot, Value::Undef)).then_some(Value::Undef);
-    for rank in 0..codomain.size() {
+    for rank in 0..size {
         let value = codomain.element(rank);
         if has(pairs, (slot, value)) {
             match first {

@@ -11,7 +11,7 @@ ghost use Rattle.asm_update.specs.Order.{rank_cmp, AreBefore, AreNotBefore};
 
 use crate::clash::first_clash;
 use crate::order::order;
-use crate::place::place_of;
+use crate::place::{has_slot, place_of};
 use asm_domain::Value;
 use asm_sign::Signature;
 use asm_state::Store;
@@ -128,13 +128,6 @@ fn put_in<S: Store>(pairs: &[(u32, Value)], store: &mut S)
     for pair in pairs {
         store.put(pair.0, pair.1);
     }
-}
-
-fn has_slot(pairs: &[(u32, Value)], slot: u32) -> bool
-    requires { IsStrictlySortedBy rank_cmp pairs.now }
-    ensures { result ≡ list_any (λ p. nat_eq p.0 slot) pairs.now }
-{
-    pairs.iter().any(|pair| pair.0 == slot)
 }
 
 /// Keeps the pairs whose slot the later set has no pair of.

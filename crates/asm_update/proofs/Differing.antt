@@ -164,7 +164,7 @@ all_in test (q ∷ ps) at =
     or_later true is = refl
     or_later false is = is
 
-same_itself : (v : Value) → same v v ≡ true
+pub same_itself : (v : Value) → same v v ≡ true
 same_itself Undef = refl
 same_itself (Bool true) = refl
 same_itself (Bool false) = refl

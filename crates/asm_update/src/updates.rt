@@ -1,13 +1,13 @@
-ghost use Rattle.std.specs.Prelude.{◌≡◌, true, false, ℕ, ◌<◌, ◌≤◌, not, [], length, filter, OnOk, OnErr, IsNone, ◌↔◌, slice_index_or, vec_len, vec_capacity, nat_eq};
+ghost use Rattle.std.specs.Prelude.{◌≡◌, true, false, ℕ, ◌≤◌, not, filter, OnOk, OnErr, IsNone, vec_len, vec_capacity};
 ghost use Rattle.std.specs.FinMap as map;
 ghost use Rattle.std.specs.FinSet as set;
-ghost use Rattle.std.specs.List.{list_any, IsDistinct};
+ghost use Rattle.std.specs.List.{IsDistinct};
 ghost use Rattle.std.specs.List.Sorted.{IsStrictlySortedBy, IsPermutation, IsSorted};
 ghost use Rattle.std.specs.Ordering.{eq_by_cmp};
-ghost use Rattle.asm_node.specs.UpdateSet.{clash, consistent, touches, override, pair_cmp, UpdateSet};
+ghost use Rattle.asm_node.specs.UpdateSet.{clash, consistent, touches, override, pair_cmp};
 ghost use Rattle.asm_update.specs.Applied.{IsOfSlots, IsFired, HaveSlots, put_in};
 ghost use Rattle.asm_update.specs.Clash.{HaveLocations};
-ghost use Rattle.asm_update.specs.Order.{rank_cmp, AreBefore, AreNotBefore};
+ghost use Rattle.asm_update.specs.Order.{rank_cmp};
 
 use crate::clash::first_clash;
 use crate::order::order;

@@ -1,3 +1,4 @@
 pub mod Clashes
+pub mod Differing
 pub mod Ordered
 pub mod Putting

@@ -64,7 +64,7 @@ and_second : (a b : Truth) → (a && b) ≡ true → b ≡ true
 and_second true b is = is
 and_second false b is = absurd (true≢false (sym is))
 
-same_is : (a b : Value) → same a b ≡ true → a ≡ b
+pub same_is : (a b : Value) → same a b ≡ true → a ≡ b
 same_is Undef Undef is = refl
 same_is (Bool true) (Bool true) is = refl
 same_is (Bool false) (Bool false) is = refl

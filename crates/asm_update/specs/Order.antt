@@ -35,3 +35,11 @@ AreBefore p qs place = (k : ℕ) (d : Pair) → k < place → rank_cmp (slice_in
 -- the pairs of a list from a place on aren't before a pair
 abbrev pub AreNotBefore : Pair → List Pair → ℕ → Type 0
 AreNotBefore p qs place = (k : ℕ) (d : Pair) → place ≤ k → k < length qs → is_lt (rank_cmp (slice_index_or qs k d) p) ≡ false
+
+-- the first pairs of a list, up to a place, are of slots before a slot
+abbrev pub AreBelow : ℕ → List Pair → ℕ → Type 0
+AreBelow slot ps place = (k : ℕ) (d : Pair) → k < place → (slice_index_or ps k d).0 < slot
+
+-- the pairs of a list from a place on are of no slots before a slot
+abbrev pub AreNotBelow : ℕ → List Pair → ℕ → Type 0
+AreNotBelow slot ps place = (k : ℕ) (d : Pair) → place ≤ k → k < length ps → slot ≤ (slice_index_or ps k d).0

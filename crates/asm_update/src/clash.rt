@@ -1,20 +1,21 @@
-ghost use Rattle.std.specs.Prelude.{◌≡◌, ◌<◌, length};
+ghost use Rattle.std.specs.Prelude.{◌≡◌, ◌<◌, true, length, IsNone};
 ghost use Rattle.std.specs.FinSet as set;
 ghost use Rattle.std.specs.List.Sorted.{IsStrictlySortedBy};
-ghost use Rattle.asm_node.specs.UpdateSet.{pair_cmp, clash, values_at};
+ghost use Rattle.asm_node.specs.UpdateSet.{pair_cmp, clash, consistent, values_at};
 ghost use Rattle.asm_sign.specs.Vocabulary.{locations};
 ghost use Rattle.asm_update.specs.Clash.{first_pair};
 ghost use Rattle.asm_update.specs.Order.{rank_cmp};
 
 use crate::order::order;
-use crate::place::place_of;
+use crate::place::{has_two, place_of};
 use asm_domain::Value;
 use asm_sign::Signature;
 
 /// The clash of pairs in order.
 pub fn first_clash(pairs: &[(u32, Value)], signature: &Signature) -> Option<(u32, Value, Value)>
     requires { IsStrictlySortedBy rank_cmp pairs.now }
-    ensures { result ≡ clash signature.now (set.from_list {R = pair_cmp} pairs.now) }
+    ensures clash { result ≡ clash signature.now (set.from_list {R = pair_cmp} pairs.now) }
+    ensures consistent { consistent (set.from_list {R = pair_cmp} pairs.now) ≡ true → IsNone result }
 {
     for pair in pairs {
         if pair.0 < signature.slots() {
@@ -30,11 +31,16 @@ pub fn first_clash(pairs: &[(u32, Value)], signature: &Signature) -> Option<(u32
 fn two_least(pairs: &[(u32, Value)], slot: u32, signature: &Signature) -> Option<(Value, Value)>
     requires sorted { IsStrictlySortedBy rank_cmp pairs.now }
     requires slot { slot < length (locations signature.now) }
-    ensures { result ≡ first_pair (values_at signature.now (set.from_list {R = pair_cmp} pairs.now) slot) }
+    ensures values { result ≡ first_pair (values_at signature.now (set.from_list {R = pair_cmp} pairs.now) slot) }
+    ensures consistent { consistent (set.from_list {R = pair_cmp} pairs.now) ≡ true → IsNone result }
 {
     let codomain = signature.codomain(slot);
+    let size = codomain.size();
+    if !has_two(pairs, slot) {
+        return None;
+    }
     let mut first = has(pairs, (slot, Value::Undef)).then_some(Value::Undef);
-    for rank in 0..codomain.size() {
+    for rank in 0..size {
         let value = codomain.element(rank);
         if has(pairs, (slot, value)) {
             match first {

@@ -1,9 +1,11 @@
-ghost use Rattle.std.specs.Prelude.{◌≡◌, []};
+ghost use Rattle.std.specs.Prelude.{◌≡◌, [], IsSome};
+ghost use Rattle.std.specs.FinMap as map;
 
 use crate::Updates;
 use asm_domain::{Domain, Value};
 use asm_list::{Listed, Name};
 use asm_sign::{DeclaredDomain, Domains, FunKind, Function, Functions, Signature};
+use asm_state::{MapStore, Store};
 use std::alloc::{AllocError, Global};
 use std::test::Fail;
 
@@ -101,5 +103,36 @@ fn a_clash_has_the_two_least_values(rt: HostRuntime) -> Result<(), Fail> {
         let set = set_of(rt.alloc(), &updates)?;
         assert_eq!(rt; set.clash(&signature), clash);
     }
+    Ok(())
+}
+
+// Puts one update in a store, and gives what its slot and another then have.
+fn after_update<S: Store>(
+    alloc: Global,
+    store: &mut S,
+    slot: u32,
+    value: Value,
+    other: u32,
+) -> Result<(Value, Value), AllocError>
+    requires slot { IsSome (map.get (S.state store.old) slot) }
+    requires other { IsSome (map.get (S.state store.old) other) }
+{
+    let mut set = Updates::new(alloc);
+    set.add(slot, value)?;
+    set.apply(store);
+    Ok((store.get(slot), store.get(other)))
+}
+
+#[test]
+fn an_update_changes_its_slot(rt: HostRuntime) -> Result<(), Fail> {
+    let signature = truths(rt.alloc())?;
+    let mut store = MapStore::new(rt.alloc(), &signature)?;
+    assert!(rt; 1 < signature.slots());
+    assert!(rt; signature.kept(0));
+    assert!(rt; signature.kept(1));
+    assert_eq!(rt;
+        after_update(rt.alloc(), &mut store, 1, NO, 0)?,
+        (NO, Value::Undef)
+    );
     Ok(())
 }

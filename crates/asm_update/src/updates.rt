@@ -1,16 +1,17 @@
-ghost use Rattle.std.specs.Prelude.{◌≡◌, true, false, ℕ, ◌<◌, ◌≤◌, not, [], length, filter, OnOk, OnErr, IsTrue, ◌↔◌, slice_index_or, vec_len, vec_capacity, nat_eq};
+ghost use Rattle.std.specs.Prelude.{◌≡◌, true, false, ℕ, ◌≤◌, not, filter, OnOk, OnErr, IsNone, vec_len, vec_capacity};
 ghost use Rattle.std.specs.FinMap as map;
 ghost use Rattle.std.specs.FinSet as set;
-ghost use Rattle.std.specs.List.{list_any, IsDistinct};
+ghost use Rattle.std.specs.List.{IsDistinct};
 ghost use Rattle.std.specs.List.Sorted.{IsStrictlySortedBy, IsPermutation, IsSorted};
 ghost use Rattle.std.specs.Ordering.{eq_by_cmp};
-ghost use Rattle.asm_node.specs.UpdateSet.{clash, consistent, touches, override, pair_cmp, UpdateSet};
+ghost use Rattle.asm_node.specs.UpdateSet.{clash, consistent, touches, override, pair_cmp};
 ghost use Rattle.asm_update.specs.Applied.{IsOfSlots, IsFired, HaveSlots, put_in};
-ghost use Rattle.asm_update.specs.Order.{rank_cmp, AreBefore, AreNotBefore};
+ghost use Rattle.asm_update.specs.Clash.{HaveLocations};
+ghost use Rattle.asm_update.specs.Order.{rank_cmp};
 
 use crate::clash::first_clash;
 use crate::order::order;
-use crate::place::place_of;
+use crate::place::{has_slot, place_of};
 use asm_domain::Value;
 use asm_sign::Signature;
 use asm_state::Store;
@@ -104,7 +105,9 @@ impl Updates {
 
     /// The least slot with two values in the set, and its two least values by rank, `undef` before all others.
     pub fn clash(&self, signature: &Signature) -> Option<(u32, Value, Value)>
-        ensures { result ≡ clash signature.now self.now }
+        ensures clash { result ≡ clash signature.now self.now }
+        ensures consistent { consistent self.now ≡ true → IsNone result }
+        ensures inconsistent { HaveLocations signature.now self.now → IsNone result → consistent self.now ≡ true }
     {
         first_clash(&self.pairs, signature)
     }
@@ -125,13 +128,6 @@ fn put_in<S: Store>(pairs: &[(u32, Value)], store: &mut S)
     for pair in pairs {
         store.put(pair.0, pair.1);
     }
-}
-
-fn has_slot(pairs: &[(u32, Value)], slot: u32) -> bool
-    requires { IsStrictlySortedBy rank_cmp pairs.now }
-    ensures { result ≡ list_any (λ p. nat_eq p.0 slot) pairs.now }
-{
-    pairs.iter().any(|pair| pair.0 == slot)
 }
 
 /// Keeps the pairs whose slot the later set has no pair of.

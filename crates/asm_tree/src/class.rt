@@ -1,5 +1,8 @@
 //! The classes of tokens.
 
+ghost use Rattle.std.specs.Prelude.{◌≡◌};
+ghost use Rattle.asm_tree.specs.Words as words;
+
 /// What a grammar asks of a token: which reserved word or symbol it is, or which kind of name. The two spellings of an
 /// operator, such as `+` and `plus`, are two classes.
 #[derive(Clone, Copy, Debug, PartialEq, Eq)]
@@ -275,6 +278,10 @@ pub const WORDS: [(&str, Class); 138] = [
     ("pick", Class::Unsupported),
 ];
 
-pub fn kind(class: Class) -> u8 {
+/// The number of the class, from 1 on.
+#[tactic(auto, unfolding(crate::specs::Words::number))]
+pub fn kind(class: Class) -> u8
+    ensures { result ≡ words.kind_of class }
+{
     class as u8 + 1
 }

@@ -3,6 +3,7 @@
 
 pub mod class;
 mod error;
+mod laws;
 mod operator;
 pub mod rule;
 pub mod script;
@@ -10,4 +11,5 @@ pub mod term;
 pub mod unit;
 
 pub use error::ParseError;
+pub use laws::one_tree;
 pub use operator::{Op, Quantifier, UnaryOp};

@@ -203,9 +203,9 @@ main_of p = record { name = p.0; rule = p.1 }
 unfoldable pub main_rule : Grammar models RawMain
 main_rule = after class.Rule (shown main_of (both (name rules) (after class.Equal (rule false))))
 
--- [ "main" [ "macro" ] main_rule ]
-unfoldable pub main : Grammar models (Option RawMain)
-main = either (shown Some (after class.Main (either (after class.Macro main_rule) main_rule))) (nothing [] None)
+-- main = "main" [ "macro" ] main_rule
+unfoldable pub main : Grammar models RawMain
+main = after class.Main (either (after class.Macro main_rule) main_rule)
 
 unfoldable pub function_bodies : Grammar models (List RawFunction)
 function_bodies = many function_body
@@ -216,6 +216,10 @@ init_of p = record { name = p.0; functions = p.1 }
 -- [ "default" "init" Word ":" { function_body } ]
 unfoldable pub init : Grammar models (Option RawInit)
 init = either (shown Some (after class.Default (after class.Init (shown init_of (both (name words) (after class.Colon function_bodies)))))) (nothing [] None)
+
+-- [ main ] [ init ]: a main rule and what follows it, or what may follow it
+unfoldable pub closing : Grammar models (Option RawMain × Option RawInit)
+closing = either (shown (λ p. (Some p.0, p.1)) (both main init)) (shown (λ i. (None, i)) init)
 
 -- { "import" path } [ export ] "signature" ":" { decl } "definitions" ":" { def }
 unfoldable pub content : Grammar models (List RawPath × (List RawDeclaration × List RawDefinition))
@@ -230,5 +234,5 @@ module_of p = record { kind = unit_kind.Module; name = p.0; imports = p.1.0; dec
 -- unit = "asm" Word content [ main ] [ init ] | "module" Word content
 unfoldable pub unit : Grammar models RawUnit
 unit =
-    either (after class.Asm (shown asm_of (both (name words) (both content (both main init)))))
+    either (after class.Asm (shown asm_of (both (name words) (both content closing))))
     (after class.Module (shown module_of (both (name words) content)))

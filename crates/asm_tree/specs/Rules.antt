@@ -58,10 +58,10 @@ call_rule p = rule_at p.0 (rule_kind.Call p.0.text p.1)
 
 -- a whole number as it is written
 abbrev pub plain_int : TokenText → RawInt
-plain_int t = record { at = t.at; value = pos (digits_value 10 t.text) }
+plain_int t = record { at = t.at; first = t.text; value = pos (digits_value 10 t.text) }
 
 abbrev pub negative_int : TokenText × TokenText → RawInt
-negative_int p = record { at = p.0.at; value = neg_ℤ (pos (digits_value 10 p.1.text)) }
+negative_int p = record { at = p.0.at; first = p.0.text; value = neg_ℤ (pos (digits_value 10 p.1.text)) }
 
 -- int = [ "-" ] Number
 unfoldable pub int : Grammar models RawInt

@@ -1,8 +1,7 @@
 -- The grammar of whole files of models, production by production.
-use Rattle.std.specs.Prelude.{ℕ, Bool, false, List, [], ◌∷◌, Option, Some, None}
+use Rattle.std.specs.Prelude.{ℕ, false, List, [], ◌∷◌, Option, Some, None}
 use Rattle.asm_grammar.specs.Grammar.{Grammar, word, nothing, both, either, many, shown, opening}
 use Rattle.asm_tree.specs.Words.{kind_of}
-use Rattle.asm_tree.specs.declared.class.Class.{Class}
 use Rattle.asm_tree.specs.declared.class.Class.TheVariants as class
 use Rattle.asm_tree.specs.declared.term.RawName.{RawName}
 use Rattle.asm_tree.specs.declared.term.RawBinder.{RawBinder}
@@ -17,7 +16,6 @@ use Rattle.asm_tree.specs.declared.unit.RawDeclaration.{RawDeclaration}
 use Rattle.asm_tree.specs.declared.unit.RawDeclaration.TheVariants as declaration_of
 use Rattle.asm_tree.specs.declared.unit.RawInt.{RawInt}
 use Rattle.asm_tree.specs.declared.unit.RawFunction.{RawFunction}
-use Rattle.asm_tree.specs.declared.unit.RawInvariant.{RawInvariant}
 use Rattle.asm_tree.specs.declared.unit.RawDefinition.{RawDefinition}
 use Rattle.asm_tree.specs.declared.unit.RawDefinition.TheVariants as definition_of
 use Rattle.asm_tree.specs.declared.unit.RawMain.{RawMain}
@@ -203,9 +201,9 @@ main_of p = record { name = p.0; rule = p.1 }
 unfoldable pub main_rule : Grammar models RawMain
 main_rule = after class.Rule (shown main_of (both (name rules) (after class.Equal (rule false))))
 
--- [ "main" [ "macro" ] main_rule ]
-unfoldable pub main : Grammar models (Option RawMain)
-main = either (shown Some (after class.Main (either (after class.Macro main_rule) main_rule))) (nothing [] None)
+-- main = "main" [ "macro" ] main_rule
+unfoldable pub main : Grammar models RawMain
+main = after class.Main (either (after class.Macro main_rule) main_rule)
 
 unfoldable pub function_bodies : Grammar models (List RawFunction)
 function_bodies = many function_body
@@ -216,6 +214,10 @@ init_of p = record { name = p.0; functions = p.1 }
 -- [ "default" "init" Word ":" { function_body } ]
 unfoldable pub init : Grammar models (Option RawInit)
 init = either (shown Some (after class.Default (after class.Init (shown init_of (both (name words) (after class.Colon function_bodies)))))) (nothing [] None)
+
+-- [ main ] [ init ]: a main rule and what follows it, or what may follow it
+unfoldable pub closing : Grammar models (Option RawMain × Option RawInit)
+closing = either (shown (λ p. (Some p.0, p.1)) (both main init)) (shown (λ i. (None, i)) init)
 
 -- { "import" path } [ export ] "signature" ":" { decl } "definitions" ":" { def }
 unfoldable pub content : Grammar models (List RawPath × (List RawDeclaration × List RawDefinition))
@@ -230,5 +232,5 @@ module_of p = record { kind = unit_kind.Module; name = p.0; imports = p.1.0; dec
 -- unit = "asm" Word content [ main ] [ init ] | "module" Word content
 unfoldable pub unit : Grammar models RawUnit
 unit =
-    either (after class.Asm (shown asm_of (both (name words) (both content (both main init)))))
+    either (after class.Asm (shown asm_of (both (name words) (both content closing))))
     (after class.Module (shown module_of (both (name words) content)))

@@ -12,7 +12,7 @@ use Rattle.asm_grammar.proofs.Public.{whole_read, not_both}
 use Rattle.asm_grammar.proofs.Deep.{IsDeepIn, whole_deep}
 use Rattle.asm_grammar.proofs.Whole.{CheckedWhole, length-tokens, judged_whole, found, refuses, too_deep}
 
-same_tail : {T : Type 0} (a b c d : List T) → a ++ b ≡ c ++ d → length b ≡ length d → (a ≡ c) × (b ≡ d)
+pub same_tail : {T : Type 0} (a b c d : List T) → a ++ b ≡ c ++ d → length b ≡ length d → (a ≡ c) × (b ≡ d)
 same_tail [] b [] d e n = (refl, e)
 same_tail [] b (x ∷ c) d e n = let f : length b ≡ length ((x ∷ c) ++ d) = ap length e in absurd (omega (arith, n, f, length-append (x ∷ c) d))
 same_tail (x ∷ a) b [] d e n = let f : length ((x ∷ a) ++ b) ≡ length d = ap length e in absurd (omega (arith, n, f, length-append (x ∷ a) b))

@@ -10,3 +10,5 @@ pub mod Deep
 pub mod Exact
 pub mod Entering
 pub mod Loops
+pub mod Counting
+pub mod Fronts

@@ -45,7 +45,7 @@ module _ (l : Language) (body : Bodies l) {A : Type 0} (whole : Grammar l A) (ta
   only limit ts y s = rw (← s.same) (ap whole_of (whole_read l body table late c.bodies whole c.good c.closed limit s.text y s.spelling s.low))
 
   -- what a text's end is followed by doesn't matter
-  settled_end : (u : List (Placed l)) (y : A) (next : ℕ) → spells l body whole 0 u y next → Spells l body whole u y
+  pub settled_end : (u : List (Placed l)) (y : A) (next : ℕ) → spells l body whole 0 u y next → Spells l body whole u y
   settled_end u y next s = settle l late (inside l body) (inside_settles l body table late c.bodies) whole 0 u y next 0 s c.settled
 
   found_got : (limit : ℕ) (ts : List l.Token) (y : A) → Got l (inside l body) (reader l body limit) whole 0 limit ts y [] → IsText l body whole limit ts y
@@ -64,10 +64,10 @@ module _ (l : Language) (body : Bodies l) {A : Type 0} (whole : Grammar l A) (ta
   unfolding whole_at
   found limit ts y e = found_of limit ts (read l (reader l body limit) whole ts) (judged_whole limit ts) y e
 
-  regroup : (u more : List (Placed l)) (front : List l.Token) (t : l.Token) → tokens l u ≡ front ++ t ∷ [] → tokens l (u ++ more) ≡ front ++ (t ∷ tokens l more)
+  pub regroup : (u more : List (Placed l)) (front : List l.Token) (t : l.Token) → tokens l u ≡ front ++ t ∷ [] → tokens l (u ++ more) ≡ front ++ (t ∷ tokens l more)
   regroup u more front t e = tokens-append l u more ∙ ap (λ z. z ++ tokens l more) e ∙ append_assoc front (t ∷ []) (tokens l more)
 
-  ends_syntax : (limit : ℕ) (front rest : List l.Token) → ((s : List l.Token) → ahead l s 0 ≡ ahead l rest 0 → read l (reader l body limit) whole (front ++ s) ≡ Err (Syntax (length s))) → EndsThere l body whole front rest
+  pub ends_syntax : (limit : ℕ) (front rest : List l.Token) → ((s : List l.Token) → ahead l s 0 ≡ ahead l rest 0 → read l (reader l body limit) whole (front ++ s) ≡ Err (Syntax (length s))) → EndsThere l body whole front rest
   ends_syntax limit front [] again = λ u y e s. no_text l body table late c.bodies whole c.good c.closed limit (front ++ []) 0 (again [] refl) u y (e ∙ sym (append-nil front)) s
   ends_syntax limit front (t ∷ rest) again = λ u e b.
       no_text l body table late c.bodies whole c.good c.closed limit (front ++ (t ∷ tokens l b.more)) (length (t ∷ tokens l b.more)) (again (t ∷ tokens l b.more) refl) (u ++ b.more) b.tree (regroup u b.more front t e) b.spelling

@@ -1,6 +1,16 @@
 pub mod Ascii
+pub mod Bodies
+pub mod CheckedFronts
+pub mod FirstTokens
+pub mod Forms
 pub mod Making
+pub mod Opening
+pub mod Operators
+pub mod Parsing
+pub mod RuleForms
+pub mod Sides
 pub mod Tables
 pub mod TokenKinds
-pub mod WordKinds
 pub mod Valued
+pub mod Verdicts
+pub mod WordKinds

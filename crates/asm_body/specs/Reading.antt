@@ -1,8 +1,12 @@
 -- How the language is read.
-use Rattle.std.specs.Prelude.{ℕ, List, Bool, false, Ok}
+use Rattle.std.specs.Prelude.{ℕ, List, [], ◌∷◌, Bool, false, Ok}
 use Rattle.asm_grammar.specs.Grammar.{Grammar, Outcome, and_then, word_at, entered, read, reader}
+use Rattle.asm_tree.specs.Words.{kind_of}
+use Rattle.asm_tree.specs.Terms.{phrase_at}
+use Rattle.asm_tree.specs.declared.class.Class.{Class}
+use Rattle.asm_tree.specs.declared.term.RawTermKind.{RawTermKind}
 use Rattle.asm_tree.specs.declared.term.RawName.{RawName}
-use Rattle.asm_tree.specs.Language.{TokenText, models, name_of}
+use Rattle.asm_tree.specs.Language.{TokenText, Phrase, Inside, Value, models, name_of}
 use Rattle.asm_tree.specs.Rules.{body}
 
 -- reading with so many levels left, in a text that is a scenario or an input file where the second one is true
@@ -20,3 +24,11 @@ name_at kinds w = and_then models (word_at models kinds w) (λ t r. Ok (name_of 
 -- a token of the kinds, and the levels that are left behind it
 unfoldable pub opened : List ℕ → ℕ → List TokenText → Outcome models (TokenText × ℕ)
 opened kinds levels w = and_then models (word_at models kinds w) (λ t r. and_then models (entered models levels w) (λ n s. Ok ((t, n), s)))
+
+-- a token of the kinds, which opens a level, and what stands in there
+abbrev pub opened_in : ℕ → Bool → List ℕ → (x : Inside) → {A : Type 0} → (TokenText × Value x → A) → List TokenText → Outcome models A
+opened_in levels script kinds x f w = and_then models (opened kinds levels w) (λ p r. and_then models (read_in p.1 script (body script x) r) (λ y z. Ok (f (p.0, y), z)))
+
+-- a term that is one token of the class
+abbrev pub constant_at : Class → RawTermKind → List TokenText → Outcome models Phrase
+constant_at c k w = and_then models (word_at models (kind_of c ∷ []) w) (λ t r. Ok (phrase_at t k, r))

@@ -2,7 +2,9 @@
 
 ghost use Rattle.std.specs.Prelude.{◌≡◌, ◌<◌, [], ◌∷◌, IfOk, map};
 ghost use Rattle.asm_grammar.specs.Grammar.{Gives, has, ahead, word_at};
+ghost use Rattle.std.specs.Str.Parse.{digits_value};
 ghost use Rattle.asm_tree.specs.Words.{kind_of};
+ghost use Rattle.asm_tree.specs.declared.class.Class.TheVariants as class_is;
 ghost use Rattle.asm_tree.specs.Language as language;
 ghost use Rattle.asm_tree.specs.Language.{models, words};
 ghost use Rattle.asm_body.specs.Reading.{name_at, opened};
@@ -87,6 +89,17 @@ pub fn any_word(alloc: Global, tokens: &[Lexeme]) -> Result<(RawName, &[Lexeme])
 {
     match tokens {
         [first, rest @ ..] if is_word(first.class) => Ok((name_of(alloc, first)?, rest)),
+        _ => Err(Stop::Syntax(tokens.len())),
+    }
+}
+
+/// The first token, where it is a number, its value, and the rest.
+pub fn number(tokens: &[Lexeme]) -> Result<(&Lexeme, u32, &[Lexeme]), Stop>
+    ensures gives { Gives models (λ x. (seen x.0.now, all_seen x.2.now)) result (word_at models (kind_of class_is.Number ∷ []) (all_seen tokens.now)) }
+    ensures value { IfOk result (λ x. x.1 ≡ digits_value 10 x.0.now.text) }
+{
+    match tokens {
+        [first, rest @ ..] if is(first.class, Class::Number) => Ok((first, first.value, rest)),
         _ => Err(Stop::Syntax(tokens.len())),
     }
 }

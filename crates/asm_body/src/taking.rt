@@ -11,8 +11,8 @@ ghost use Rattle.asm_tree.specs.Spelling.{token_text, token_texts};
 ghost use Rattle.asm_body.specs.Seen.{seen, all_seen};
 
 use crate::class::{class_of, is};
+use crate::digits::value_of;
 use crate::lexeme::Lexeme;
-use crate::number::value_of;
 use asm_lex::Token;
 use asm_list::Name;
 use asm_tree::class::Class;

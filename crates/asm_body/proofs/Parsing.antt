@@ -1,6 +1,6 @@
 -- Tokens from a place on.
-use Rattle.std.proofs.Common.{◌≡◌, ℕ, zero, suc, ◌-◌, ◌≤◌, Bool, true, false, List, [], ◌∷◌, refl, ap, sym, ◌∙◌, arith, length, drop, if◌then◌else◌, Ok}
-use Rattle.std.proofs.lemmas.List.{length-map}
+use Rattle.std.proofs.Common.{◌≡◌, ℕ, zero, suc, ◌-◌, ◌≤◌, Bool, true, false, List, [], ◌∷◌, refl, ap, sym, ◌∙◌, arith, length, take, drop, if◌then◌else◌, Ok}
+use Rattle.std.proofs.lemmas.List.{length-map, length-drop}
 use Rattle.asm_lex.specs.declared.token.Token.{Token}
 use Rattle.asm_lex.specs.Cut.{cut, IsIn, AreIn}
 use Rattle.asm_lex.proofs.Small.{AreSmall, small}
@@ -18,6 +18,14 @@ seen_from (suc n) (x ∷ xs) = seen_from n xs
 
 left_out_at : (xs : List Lexeme) (left : ℕ) → left_out (drop (length (all_seen xs) - left) (all_seen xs)) ≡ left_out (all_seen (drop (length xs - left) xs))
 left_out_at xs left = ap (λ (n : ℕ). left_out (drop (n - left) (all_seen xs))) (length-map xs seen) ∙ ap left_out (sym (seen_from (length xs - left) xs))
+
+all_taken : (xs : List Lexeme) → take (length xs) xs ≡ xs
+all_taken [] = refl
+all_taken (x ∷ xs) = ap (λ (ys : List Lexeme). x ∷ ys) (all_taken xs)
+
+-- The items from a place to the end are those from it on.
+pub to_end : (n : ℕ) (xs : List Lexeme) → take (length xs - n) (drop n xs) ≡ drop n xs
+to_end n xs = ap (λ (k : ℕ). take k (drop n xs)) (sym (length-drop n xs)) ∙ all_taken (drop n xs)
 
 pub stop_left_out : (xs : List Lexeme) (left k : ℕ) → left_out (all_seen (drop (length xs - left) xs)) ≡ true → (if left_out (drop (length (all_seen xs) - left) (all_seen xs)) then Unsupported k else Syntax k) ≡ Unsupported k
 stop_left_out xs left k h = rw (left_out_at xs left, h) refl

@@ -1,7 +1,7 @@
 //! What a rule gives.
 ghost use Rattle.std.specs.Prelude.{◌≡◌, OnOk, IfErr, map};
-ghost use Rattle.asm_fire.specs.Meaning.{value_of, taken, together, Faults};
-ghost use Rattle.asm_fire.specs.Table.{AddsOutcome};
+ghost use Rattle.boolean_fire.specs.Meaning.{value_of, taken, together, Faults};
+ghost use Rattle.boolean_fire.specs.Table.{AddsOutcome};
 
 use crate::rule::{Rule, Term};
 use crate::stop::Stop;

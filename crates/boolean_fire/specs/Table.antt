@@ -1,9 +1,9 @@
 -- Update sets as tables with an entry for each location.
 use Rattle.std.specs.Prelude.{◌≡◌, ℕ, ◌<◌, Bool as Truth, true, false, ◌||◌, List, [], ◌∷◌, Option, Some, None, slice_get, length, filter}
-use Rattle.asm_fire.specs.declared.value.Value.{Value}
-use Rattle.asm_fire.specs.declared.value.Value.TheVariants.{Undef, Bool}
-use Rattle.asm_fire.specs.declared.table.Marks.{Marks}
-use Rattle.asm_fire.specs.Meaning.{UpdateSet, Outcome, Yields}
+use Rattle.boolean_fire.specs.declared.value.Value.{Value}
+use Rattle.boolean_fire.specs.declared.value.Value.TheVariants.{Undef, Bool}
+use Rattle.boolean_fire.specs.declared.table.Marks.{Marks}
+use Rattle.boolean_fire.specs.Meaning.{UpdateSet, Outcome, Yields}
 
 abbrev pub has_mark : Marks → Value → Truth
 has_mark m Undef = m.undef

@@ -1,5 +1,5 @@
-use Rattle.asm_fire.proofs.Taking.{parted-none, parted-more, together-next}
-use Rattle.asm_fire.proofs.fire.+rule.Goals as goal
+use Rattle.boolean_fire.proofs.Taking.{parted-none, parted-more, together-next}
+use Rattle.boolean_fire.proofs.fire.+rule.Goals as goal
 
 pub take_all-parts-init : goal.take_all-parts-init
 take_all-parts-init t c = parted-none _ _

@@ -6,13 +6,13 @@ use Rattle.std.proofs.Math.Seq.{drop-cons}
 use Rattle.std.proofs.lemmas.List.{get_or-set_other, get_or-replicate, length-replicate, take_more_set, drop-set-lt}
 use Rattle.std.proofs.lemmas.Grind.{get_or-set_at}
 use Rattle.std.proofs.lemmas.Option.{slice_get-get_or}
-use Rattle.asm_fire.specs.declared.value.Value.{Value}
-use Rattle.asm_fire.specs.declared.value.Value.TheVariants.{Undef, Bool}
-use Rattle.asm_fire.specs.declared.stop.Stop.{Stop}
-use Rattle.asm_fire.specs.declared.table.Marks.{Marks}
-use Rattle.asm_fire.specs.declared.rule.Rule.{Rule}
-use Rattle.asm_fire.specs.Meaning.{UpdateSet, State, one_update, same, values_at, clash_from, clash_at, clash_of, or_else, fired_from, fired, first_or, taken, next, fires, unless_clash, Moves, Stops}
-use Rattle.asm_fire.specs.Table.{Adds, AddsOutcome, has_mark, with_mark, marked, marked_in, unmarked, values_of}
+use Rattle.boolean_fire.specs.declared.value.Value.{Value}
+use Rattle.boolean_fire.specs.declared.value.Value.TheVariants.{Undef, Bool}
+use Rattle.boolean_fire.specs.declared.stop.Stop.{Stop}
+use Rattle.boolean_fire.specs.declared.table.Marks.{Marks}
+use Rattle.boolean_fire.specs.declared.rule.Rule.{Rule}
+use Rattle.boolean_fire.specs.Meaning.{UpdateSet, State, one_update, same, values_at, clash_from, clash_at, clash_of, or_else, fired_from, fired, first_or, taken, next, fires, unless_clash, Moves, Stops}
+use Rattle.boolean_fire.specs.Table.{Adds, AddsOutcome, has_mark, with_mark, marked, marked_in, unmarked, values_of}
 
 pub or_false : (a : Truth) → (a || false) ≡ a
 or_false true = refl

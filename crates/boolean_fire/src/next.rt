@@ -1,8 +1,8 @@
 //! A step of a machine.
 ghost use Rattle.std.specs.Prelude.{◌≡◌, ◌<◌, ◌^◌, length, replicate, OnOk, IfErr, OnErr};
-ghost use Rattle.asm_fire.specs.Meaning.{next, Moves, Stops};
-ghost use Rattle.asm_fire.specs.Table.{unmarked};
-ghost use Rattle.asm_fire.specs.Step.{EndsStep};
+ghost use Rattle.boolean_fire.specs.Meaning.{next, Moves, Stops};
+ghost use Rattle.boolean_fire.specs.Table.{unmarked};
+ghost use Rattle.boolean_fire.specs.Step.{EndsStep};
 
 use crate::fire::take_rule;
 use crate::rule::Rule;
@@ -21,7 +21,7 @@ pub enum StepError {
 }
 
 impl From<AllocError> for StepError {
-    ghost use Rattle.asm_fire.specs.declared.next.StepError.TheVariants.{Memory};
+    ghost use Rattle.boolean_fire.specs.declared.next.StepError.TheVariants.{Memory};
 
     ghost from_gives = { λ _ e. e ≡ Memory };
 

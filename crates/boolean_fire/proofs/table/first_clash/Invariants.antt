@@ -1,7 +1,7 @@
 use Rattle.std.proofs.Common.{◌≡◌, ◌-◌, length}
-use Rattle.asm_fire.specs.Meaning.{clash_from}
-use Rattle.asm_fire.specs.Table.{marked}
-use Rattle.asm_fire.proofs.table.first_clash.Given as goal
+use Rattle.boolean_fire.specs.Meaning.{clash_from}
+use Rattle.boolean_fire.specs.Table.{marked}
+use Rattle.boolean_fire.proofs.table.first_clash.Given as goal
 
 -- the first clash is among the locations that are left
 abbrev pub invariant-slots : goal.invariant-slots

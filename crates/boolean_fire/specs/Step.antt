@@ -1,8 +1,8 @@
 -- What an error of a step says.
 use Rattle.std.specs.Prelude.{◌≡◌}
-use Rattle.asm_fire.specs.declared.next.StepError.{StepError}
-use Rattle.asm_fire.specs.declared.next.StepError.TheVariants as error
-use Rattle.asm_fire.specs.Meaning.{Next, Stops}
+use Rattle.boolean_fire.specs.declared.next.StepError.{StepError}
+use Rattle.boolean_fire.specs.declared.next.StepError.TheVariants as error
+use Rattle.boolean_fire.specs.Meaning.{Next, Stops}
 
 -- a stop is that of the step; want of memory says nothing of it
 abbrev pub EndsStep : Next → StepError → Type 0

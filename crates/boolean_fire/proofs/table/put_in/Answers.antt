@@ -1,9 +1,9 @@
 use Rattle.std.proofs.Common.{arith, length-set}
-use Rattle.asm_fire.specs.declared.value.Value.{Value}
-use Rattle.asm_fire.specs.declared.value.Value.TheVariants.{Undef}
-use Rattle.asm_fire.proofs.Tables.{written-more}
-use Rattle.asm_fire.specs.Table.{unmarked}
-use Rattle.asm_fire.proofs.table.put_in.Goals as goal
+use Rattle.boolean_fire.specs.declared.value.Value.{Value}
+use Rattle.boolean_fire.specs.declared.value.Value.TheVariants.{Undef}
+use Rattle.boolean_fire.proofs.Tables.{written-more}
+use Rattle.boolean_fire.specs.Table.{unmarked}
+use Rattle.boolean_fire.proofs.table.put_in.Goals as goal
 
 pub slots-preserved : goal.slots-preserved
 slots-preserved c = record {

@@ -1,7 +1,7 @@
 use Rattle.std.proofs.Common.{◌≡◌, ◌++◌, length, take, drop}
-use Rattle.asm_fire.specs.Meaning.{fired, fired_from}
-use Rattle.asm_fire.specs.Table.{marked}
-use Rattle.asm_fire.proofs.table.put_in.Given as goal
+use Rattle.boolean_fire.specs.Meaning.{fired, fired_from}
+use Rattle.boolean_fire.specs.Table.{marked}
+use Rattle.boolean_fire.proofs.table.put_in.Given as goal
 
 -- the locations so far are written, and the others are still as before
 abbrev pub invariant-slots : goal.invariant-slots

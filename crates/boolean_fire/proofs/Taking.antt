@@ -1,16 +1,16 @@
 -- What a rule gives, form by form.
 use Rattle.std.proofs.Common.{◌≡◌, ℕ, ◌<◌, ◌||◌, List, ◌∷◌, length, refl, sym, ap, ◌∙◌, arith, add-one, suc, ◌+◌, drop, get_or, drop-cons}
 use Rattle.std.specs.Prelude.{map}
-use Rattle.asm_fire.specs.declared.stop.Stop.TheVariants as stop
-use Rattle.asm_fire.specs.declared.rule.Term.{Term}
-use Rattle.asm_fire.specs.declared.rule.Rule.{Rule}
-use Rattle.asm_fire.specs.declared.rule.Rule.TheVariants as rule_of
-use Rattle.asm_fire.specs.declared.rule.Rule.TheOpen.{Rule-F}
-use Rattle.asm_fire.specs.declared.rule.Rule.TheFolds.{fold-roll-Rule}
-use Rattle.asm_fire.specs.declared.table.Marks.{Marks}
-use Rattle.asm_fire.specs.Meaning.{State, UpdateSet, Outcome, Yields, Faults, and_then, union, no_update, one_update, value_of, Meaning, together, branch, rule_step, taken}
-use Rattle.asm_fire.specs.Table.{Adds, AddsOutcome, marked}
-use Rattle.asm_fire.proofs.Tables.{or_false, or_assoc}
+use Rattle.boolean_fire.specs.declared.stop.Stop.TheVariants as stop
+use Rattle.boolean_fire.specs.declared.rule.Term.{Term}
+use Rattle.boolean_fire.specs.declared.rule.Rule.{Rule}
+use Rattle.boolean_fire.specs.declared.rule.Rule.TheVariants as rule_of
+use Rattle.boolean_fire.specs.declared.rule.Rule.TheOpen.{Rule-F}
+use Rattle.boolean_fire.specs.declared.rule.Rule.TheFolds.{fold-roll-Rule}
+use Rattle.boolean_fire.specs.declared.table.Marks.{Marks}
+use Rattle.boolean_fire.specs.Meaning.{State, UpdateSet, Outcome, Yields, Faults, and_then, union, no_update, one_update, value_of, Meaning, together, branch, rule_step, taken}
+use Rattle.boolean_fire.specs.Table.{Adds, AddsOutcome, marked}
+use Rattle.boolean_fire.proofs.Tables.{or_false, or_assoc}
 
 pub taken-Skip : (s : State) → taken rule_of.Skip s ≡ Yields no_update
 taken-Skip s = ap (λ (m : Meaning). m s) (ap taken (sym rule_of.rolls-Skip) ∙ fold-roll-Rule Meaning rule_step Rule-F.Skip)

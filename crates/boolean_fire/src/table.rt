@@ -1,7 +1,7 @@
 //! Update sets as tables with an entry for each location.
 ghost use Rattle.std.specs.Prelude.{◌≡◌, ◌<◌, ◌^◌, length};
-ghost use Rattle.asm_fire.specs.Meaning.{one_update, clash_from, clash_at, first_or, fired};
-ghost use Rattle.asm_fire.specs.Table.{Adds, with_mark, values_of, marked};
+ghost use Rattle.boolean_fire.specs.Meaning.{one_update, clash_from, clash_at, first_or, fired};
+ghost use Rattle.boolean_fire.specs.Table.{Adds, with_mark, values_of, marked};
 
 use crate::stop::Stop;
 use crate::value::Value;

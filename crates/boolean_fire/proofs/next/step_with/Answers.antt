@@ -1,5 +1,5 @@
-use Rattle.asm_fire.proofs.Tables.{step-clash, step-moves}
-use Rattle.asm_fire.proofs.next.step_with.Goals as goal
+use Rattle.boolean_fire.proofs.Tables.{step-clash, step-moves}
+use Rattle.boolean_fire.proofs.next.step_with.Goals as goal
 
 pub returns-in-Some-clause-stop : goal.returns-in-Some-clause-stop
 returns-in-Some-clause-stop c =

@@ -1,14 +1,14 @@
 -- What a rule gives in a state.
 use Rattle.std.specs.Prelude.{ℕ, suc, zero, Bool as Truth, true, false, ◌&&◌, ◌||◌, List, [], ◌∷◌, Option, Some, None, nat_eq, slice_get, length, filter}
-use Rattle.asm_fire.specs.declared.value.Value.{Value}
-use Rattle.asm_fire.specs.declared.value.Value.TheVariants.{Undef, Bool}
-use Rattle.asm_fire.specs.declared.stop.Stop.{Stop}
-use Rattle.asm_fire.specs.declared.stop.Stop.TheVariants as stop
-use Rattle.asm_fire.specs.declared.rule.Term.{Term}
-use Rattle.asm_fire.specs.declared.rule.Term.TheVariants as term
-use Rattle.asm_fire.specs.declared.rule.Rule.{Rule}
-use Rattle.asm_fire.specs.declared.rule.Rule.TheOpen.{Rule-F}
-use Rattle.asm_fire.specs.declared.rule.Rule.TheFolds.{fold-Rule}
+use Rattle.boolean_fire.specs.declared.value.Value.{Value}
+use Rattle.boolean_fire.specs.declared.value.Value.TheVariants.{Undef, Bool}
+use Rattle.boolean_fire.specs.declared.stop.Stop.{Stop}
+use Rattle.boolean_fire.specs.declared.stop.Stop.TheVariants as stop
+use Rattle.boolean_fire.specs.declared.rule.Term.{Term}
+use Rattle.boolean_fire.specs.declared.rule.Term.TheVariants as term
+use Rattle.boolean_fire.specs.declared.rule.Rule.{Rule}
+use Rattle.boolean_fire.specs.declared.rule.Rule.TheOpen.{Rule-F}
+use Rattle.boolean_fire.specs.declared.rule.Rule.TheFolds.{fold-Rule}
 
 -- ---- states and terms
 

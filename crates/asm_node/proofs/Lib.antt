@@ -2,6 +2,7 @@ pub mod Extending
 pub mod Inputs
 pub mod Listing
 pub mod Pools
+pub mod Revising
 pub mod Rows
 pub mod Shared
 pub mod TermRows

@@ -1,5 +1,7 @@
 pub mod Env
+pub mod Exact
 pub mod Machine
+pub mod Model
 pub mod Pool
 pub mod RuleTree
 pub mod Step
@@ -8,4 +10,5 @@ pub mod Term
 pub mod Tree
 pub mod UpdateSet
 pub mod Values
+pub mod Weight
 pub mod Words

@@ -3,6 +3,7 @@
 
 mod env;
 mod input;
+mod model;
 mod operator;
 mod path;
 mod pool;
@@ -13,8 +14,9 @@ mod term;
 mod tests;
 mod words;
 
-pub use env::Env;
+pub use env::{Binding, Env};
 pub use input::Input;
+pub use model::{Definition, Definitions, InitialTerms, MacroRule, Model, Rules, Terms};
 pub use operator::{Op, Quantifier};
 pub use path::{Path, Step, Values};
 pub use pool::Pool;

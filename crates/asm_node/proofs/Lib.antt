@@ -1,9 +1,13 @@
+pub mod Exactly
 pub mod Extending
+pub mod Filling
 pub mod Inputs
 pub mod Listing
 pub mod Pools
+pub mod Ranging
 pub mod Revising
 pub mod Rows
 pub mod Shared
 pub mod TermRows
 pub mod UpdateSets
+pub mod Valued

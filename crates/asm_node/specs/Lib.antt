@@ -1,8 +1,10 @@
 pub mod Env
 pub mod Exact
+pub mod Filled
 pub mod Machine
 pub mod Model
 pub mod Pool
+pub mod Ranges
 pub mod RuleTree
 pub mod Step
 pub mod Taking

@@ -34,6 +34,10 @@ module _ (l : Language) where
   abbrev pub Lives : Inner l → Type 0
   Lives inner = (x : l.Inside) (d next : ℕ) → (v : List (Placed l)) × (y : l.Value x) × inner x d v y next
 
+  -- some text of each body of which the test is true
+  abbrev pub LivesWhere : (l.Inside → Bool) → Inner l → Type 0
+  LivesWhere o inner = (x : l.Inside) → o x ≡ true → (d next : ℕ) → (v : List (Placed l)) × (y : l.Value x) × inner x d v y next
+
   abbrev pub OneOf : {A : Type 0} → Inner l → Grammar l A → ℕ → ℕ → Type 0
   OneOf {A} inner g d next = (v : List (Placed l)) × (y : A) × spelled l inner g d v y next
 
@@ -55,7 +59,7 @@ module _ (l : Language) where
   are_kinds table late (shown f g) good = are_kinds table late g good
   are_kinds table late (opening k x) good = good
 
-  pub lives : (inner : Inner l) (o : Bool) → (o ≡ true → Lives inner) → {A : Type 0} → (g : Grammar l A) → AreKinds g → is_live l o g ≡ true → (d next : ℕ) → OneOf inner g d next
+  pub lives : (inner : Inner l) (o : l.Inside → Bool) → LivesWhere o inner → {A : Type 0} → (g : Grammar l A) → AreKinds g → is_live l o g ≡ true → (d next : ℕ) → OneOf inner g d next
   lives inner o li (word k) ks live d next = (record { token = some_of l k; depth = d } ∷ [], some_of l k, (refl, ks))
   lives inner o li (nothing [] a) ks live d next = ([], a, (refl, refl, refl))
   lives inner o li (nothing (k ∷ l) a) ks live d next = absurd (cc)
@@ -69,7 +73,7 @@ module _ (l : Language) where
   ]
   lives inner o li (many g) ks live d next = ([], [], refl)
   lives inner o li (shown f g) ks live d next = let p = lives inner o li g ks live d next in (p.0, f p.1, (p.1, refl, p.2))
-  lives inner o li (opening k x) ks live d next = let p = li live x (suc d) next in (record { token = some_of l k; depth = suc d } ∷ p.0, (some_of l k, p.1), (p.0, refl, ks, p.2))
+  lives inner o li (opening k x) ks live d next = let p = li x live (suc d) next in (record { token = some_of l k; depth = suc d } ∷ p.0, (some_of l k, p.1), (p.0, refl, ks, p.2))
 
   -- ---- another follower
 
@@ -209,7 +213,7 @@ module _ (l : Language) where
   nil_append_right (t ∷ v) w e = absurd (cc)
 
   pub stops_left : {A B : Type 0} (inner : Inner l) (readers : Readers l) → Lives inner → (g : Grammar l A) (h : Grammar l B) (d limit : ℕ) (w : List l.Token) (deep : Bool) (k : ℕ)
-      → AreKinds h → is_live l true h ≡ true → Stops inner readers g d limit w deep k → Stops inner readers (both g h) d limit w deep k
+      → AreKinds h → is_live l (λ x. true) h ≡ true → Stops inner readers g d limit w deep k → Stops inner readers (both g h) d limit w deep k
   stops_left inner readers li g h d limit w deep k ks live j = record {
     text = j.text;
     rest = j.rest;
@@ -217,7 +221,7 @@ module _ (l : Language) where
     count = j.count;
     low = j.low;
     goes_on = λ next.
-        (let q = lives inner true (λ e. li) h ks live d next in
+        (let q = lives inner (λ x. true) (λ x e. li x) h ks live d next in
         let p = j.goes_on (next_of l q.0 next) in
         (p.0 ++ q.0, (p.1, q.1), (j.text ++ p.0, q.0, sym (append_assoc j.text p.0 q.0), p.2, q.2), goes_further deep limit j.rest p.0 q.0 p.3));
     again = λ s e. rw (j.again s e) refl;
@@ -310,7 +314,7 @@ module _ (l : Language) where
   judge_second late inner readers si g h d limit w x r safe i (Err (TooDeep k)) j = stops_right late inner readers si g h d limit w x r true k safe i j
 
   pub judge_both : {A B : Type 0} (late : l.Inside → List ℕ) (inner : Inner l) (readers : Readers l) → Settles late inner → Lives inner → (g : Grammar l A) (h : Grammar l B) (d limit : ℕ) (w : List l.Token)
-      → AreKinds h → is_live l true h ≡ true → is_safe (senses l late g) (is_empty l h) (firsts l h) (is_calm l h) ≡ true → ((r : List l.Token) → Judge inner readers h d limit r (read l readers h r))
+      → AreKinds h → is_live l (λ x. true) h ≡ true → is_safe (senses l late g) (is_empty l h) (firsts l h) (is_calm l h) ≡ true → ((r : List l.Token) → Judge inner readers h d limit r (read l readers h r))
       → (o : Outcome l A) → Judge inner readers g d limit w o → Judge inner readers (both g h) d limit w (and_then l o (λ x r. and_then l (read l readers h r) (λ y s. Ok ((x, y), s))))
   judge_both late inner readers si li g h d limit w ks live safe jh (Ok p) i = judge_second late inner readers si g h d limit w p.0 p.1 safe i (read l readers h p.1) (jh p.1)
   judge_both late inner readers si li g h d limit w ks live safe jh (Err Memory) i = i
@@ -576,8 +580,8 @@ module _ (l : Language) where
       let rest = and_right (is_good l table late g) _ good in
       let rest2 = and_right (is_good l table late h) _ rest in
       let rest3 = and_right (disjoint (firsts l h) (ends l table g)) _ rest2 in
-      let rest4 = and_right (is_live l true h) _ rest3 in
-      judge_both late inner readers si li g h d limit w (are_kinds table late h (and_left (is_good l table late h) _ rest)) (and_left (is_live l true h) _ rest3) (and_right (subset (barred l h) []) _ rest4)
+      let rest4 = and_right (is_live l (λ x. true) h) _ rest3 in
+      judge_both late inner readers si li g h d limit w (are_kinds table late h (and_left (is_good l table late h) _ rest)) (and_left (is_live l (λ x. true) h) _ rest3) (and_right (subset (barred l h) []) _ rest4)
       (λ r. judged table late inner readers li si d limit le ij h (and_left (is_good l table late h) _ rest) r (not_held (ahead l r 0) (barred l h) [] (and_left (subset (barred l h) []) _ rest4) refl))
       (read l readers g w) (judged table late inner readers li si d limit le ij g (and_left (is_good l table late g) _ good) w o)
   judged table late inner readers li si d limit le ij (either g h) good w o =

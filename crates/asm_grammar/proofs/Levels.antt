@@ -4,7 +4,7 @@ use Rattle.asm_grammar.specs.declared.Stop.TheVariants.{Memory, Syntax, TooDeep}
 use Rattle.asm_grammar.specs.Grammar.{Language, has, word, nothing, both, either, many, shown, opening, Bodies, Grammar, Inner, Lang, Outcome, Placed, ahead, and_then, inside, kind, nested, next_of, read, reader, spelled, spelled_list, spells}
 use Rattle.asm_grammar.proofs.Sets.{subset, not_held}
 use Rattle.asm_grammar.proofs.Theory.{barred, ends, if_true, is_good, is_live, senses}
-use Rattle.asm_grammar.proofs.Judged.{InnerJudge, Judge, Lives, Settles, Stops, are_kinds, judged, lives, same_token, settle}
+use Rattle.asm_grammar.proofs.Judged.{InnerJudge, Judge, Lives, LivesWhere, Settles, Stops, are_kinds, judged, lives, same_token, settle}
 
 module _ (l : Language) where
   -- ---- a bound on the nesting, and none
@@ -71,14 +71,22 @@ module _ (l : Language) where
     pub good : (x : l.Inside) → is_good l table late (body x) ≡ true
     pub ends_in : (x : l.Inside) → subset (ends l table (body x)) (table x) ≡ true
     pub senses_in : (x : l.Inside) → subset (senses l late (body x)) (late x) ≡ true
-    pub live : (x : l.Inside) → is_live l false (body x) ≡ true
+    -- bodies with a text that opens no level; each other body has a text that opens such bodies alone
+    pub plain : l.Inside → Bool
+    pub plain_live : (x : l.Inside) → plain x ≡ true → is_live l (λ y. false) (body x) ≡ true
+    pub live : (x : l.Inside) → is_live l plain (body x) ≡ true
     pub unbarred : (x : l.Inside) → subset (barred l (body x)) [] ≡ true
+
+  pub plain_lives : (body : Bodies l) (table late : l.Inside → List ℕ) → (c : Checked body table late) → LivesWhere l c.plain (nested l body 1)
+  unfolding nested
+  plain_lives body table late c x e d next =
+      lives l (nested l body 0) (λ y. false) (λ y f. absurd (cc)) (body x) (are_kinds l table late (body x) (c.good x)) (c.plain_live x e) d next
 
   pub inside_lives : (body : Bodies l) (table late : l.Inside → List ℕ) → Checked body table late → Lives l (inside l body)
   unfolding nested
   inside_lives body table late c x d next =
-      let p = lives l (nested l body 0) false (λ e. absurd (cc)) (body x) (are_kinds l table late (body x) (c.good x)) (c.live x) d next in
-      (p.0, p.1, (1, p.2))
+      let p = lives l (nested l body 1) c.plain (plain_lives body table late c) (body x) (are_kinds l table late (body x) (c.good x)) (c.live x) d next in
+      (p.0, p.1, (2, p.2))
 
   pub nested_settles : (body : Bodies l) (table late : l.Inside → List ℕ) → Checked body table late → (m : ℕ) → Settles l late (nested l body m)
   unfolding nested

@@ -52,8 +52,8 @@ module _ (l : Language) where
   ends table (shown f g) = ends table g
   ends table (opening k x) = table x
 
-  -- with some text, whatever follows; openings count where the first argument says so
-  abbrev pub is_live : Bool → {A : Type 0} → Grammar l A → Bool
+  -- with some text, whatever follows; an opening counts where the first argument says so of what stands behind it
+  abbrev pub is_live : (l.Inside → Bool) → {A : Type 0} → Grammar l A → Bool
   is_live o (word k) = true
   is_live o (nothing [] a) = true
   is_live o (nothing (k ∷ ks) a) = false
@@ -61,7 +61,7 @@ module _ (l : Language) where
   is_live o (either g h) = is_live o g || is_live o h
   is_live o (many g) = true
   is_live o (shown f g) = is_live o g
-  is_live o (opening k x) = o
+  is_live o (opening k x) = o x
 
   -- the followers on which it can depend whether a text is one of the grammar's
   abbrev pub senses : (l.Inside → List ℕ) → {A : Type 0} → Grammar l A → List ℕ
@@ -96,7 +96,7 @@ module _ (l : Language) where
   abbrev pub is_good : (l.Inside → List ℕ) → (l.Inside → List ℕ) → {A : Type 0} → Grammar l A → Bool
   is_good table late (word k) = has (kind l (some_of l k)) k
   is_good table late (nothing ks a) = true
-  is_good table late (both g h) = is_good table late g && (is_good table late h && (disjoint (firsts l h) (ends table g) && (is_live true h && (subset (barred h) [] && is_safe (senses late g) (is_empty l h) (firsts l h) (is_calm h)))))
+  is_good table late (both g h) = is_good table late g && (is_good table late h && (disjoint (firsts l h) (ends table g) && (is_live (λ x. true) h && (subset (barred h) [] && is_safe (senses late g) (is_empty l h) (firsts l h) (is_calm h)))))
   is_good table late (either g h) = is_good table late g && (is_good table late h && (not (is_empty l g) && (disjoint (firsts l h) (firsts l g) && (subset (barred h) (firsts l g) && subset (barred g) []))))
   is_good table late (many g) = is_good table late g && (not (is_empty l g) && (disjoint (firsts l g) (ends table g) && (subset (barred g) [] && ((is_nil (senses late g) || starts g) && not (has 0 (firsts l g))))))
   is_good table late (shown f g) = is_good table late g

@@ -29,7 +29,7 @@ unfolding number value term update parallel conditional rule more_rules other bo
 senses_in Parallel = refl
 senses_in Conditional = refl
 
-pub live : (x : Inside) → is_live models false (body x) ≡ true
+pub live : (x : Inside) → is_live models (λ y. false) (body x) ≡ true
 unfolding number value term update parallel conditional rule more_rules other body
 live Parallel = refl
 live Conditional = refl
@@ -42,7 +42,7 @@ unbarred Conditional = refl
 pub checked : CheckedWhole models body unit table late
 unfolding number class_of value term update parallel conditional rule more_rules other header declaration declarations signature main initial more_initials initials unit
 checked = record {
-  bodies = record { good = good; ends_in = ends_in; senses_in = senses_in; live = live; unbarred = unbarred };
+  bodies = record { good = good; ends_in = ends_in; senses_in = senses_in; plain = λ x. false; plain_live = λ x e. absurd (cc); live = live; unbarred = unbarred };
   good = refl;
   closed = refl;
   settled = refl;

@@ -5,15 +5,9 @@ ghost use Rattle.boolean_run.specs.Resolved.{Resolves};
 
 use crate::machine::MachineError;
 use crate::names;
-<<<<<<< HEAD
-use asm_body::tree::{RawRule, RawRuleKind, RawTerm, RawTermKind};
-use asm_list::{Boxed, Listed, Name};
-use boolean_fire::{Rule, Term, Value};
-=======
 use boolean_fire::{Rule, Term, Value};
 use asm_list::{Boxed, Listed, Name};
 use boolean_body::tree::{RawRule, RawRuleKind, RawTerm, RawTermKind};
->>>>>>> 6461fd9b606139e24d080fff7f4ed77b98f0457e
 use std::alloc::Global;
 
 /// The location of the function of this name.

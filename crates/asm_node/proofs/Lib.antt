@@ -1,3 +1,4 @@
+pub mod Continuing
 pub mod Exactly
 pub mod Extending
 pub mod Filling

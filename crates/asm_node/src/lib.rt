@@ -2,6 +2,7 @@
 #![tactic(auto)]
 
 mod env;
+mod extending_law;
 mod input;
 mod model;
 mod operator;
@@ -15,6 +16,7 @@ mod term;
 mod tests;
 mod words;
 
+pub use extending_law::steps_extend;
 pub use env::{Binding, Env};
 pub use input::Input;
 pub use model::{Definition, Definitions, InitialTerms, MacroRule, Model, Rules, Terms};

@@ -11,15 +11,14 @@ use Rattle.asm_sign.specs.declared.function.Function.{Function}
 use Rattle.asm_node.specs.declared.stop.Stop.{Stop}
 use Rattle.asm_node.specs.declared.stop.Stop.TheVariants as stop
 use Rattle.asm_node.specs.declared.path.Step.TheVariants.{Part, Called, Bound}
-use Rattle.asm_node.specs.declared.term.Binder.{Binder}
 use Rattle.asm_node.specs.Tree.{Tree, Trees, Const}
 use Rattle.asm_node.specs.RuleTree.{Rule, Rules, Skip, Update, Par, Seq, If, Let, Forall, Choose, Call, none, more}
 use Rattle.asm_node.specs.Machine.{Machine, Macro, State, Input, tuples_of, has_kind, is_shared}
-use Rattle.asm_node.specs.Term.{World, Outcome, Gives, Needs, branch, val, vals, Places, put, put_tuple, nowhere, reads_at, calls_of, unbound}
+use Rattle.asm_node.specs.Term.{World, Outcome, Gives, Needs, branch, val, vals, Places, put, put_tuple, nowhere}
 use Rattle.asm_sign.specs.Vocabulary.{function_at}
-use Rattle.asm_node.specs.UpdateSet.{UpdateSet, consistent, override, fire, clash}
-use Rattle.asm_node.specs.Taking.{Attempt, Yields, Faults, Pick, Bodies, Path, and_then, evaluated, valued, updated, update, each, guarded, candidates, chosen, after_set, taken, taken_all, body_taken, bodies_within, outcome, stand_for, fired, by_words, by_paths}
-use Rattle.asm_node.specs.Step.{after, ended, next, Steps, shared_value, with_shared, world_at}
+use Rattle.asm_node.specs.UpdateSet.{UpdateSet, consistent, fire, clash}
+use Rattle.asm_node.specs.Taking.{Attempt, Yields, Faults, Pick, Bodies, Path, and_then, evaluated, valued, updated, update, each, candidates, chosen, taken, taken_all, body_taken, bodies_within, outcome, stand_for, by_words, by_paths}
+use Rattle.asm_node.specs.Step.{after, ended, next, Steps, shared_value, with_shared}
 use Rattle.asm_node.specs.Extending.{Extends, StaysStep}
 use Rattle.asm_node.proofs.Revising.{get-revised, same_state}
 use Rattle.asm_node.proofs.Extending.{Keeps, GivesMore, WithInput, val-kept, vals-kept}

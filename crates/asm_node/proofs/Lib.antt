@@ -1,3 +1,5 @@
+pub mod ChoosingPaths
+pub mod ChoosingWords
 pub mod Continuing
 pub mod Exactly
 pub mod Extending
@@ -8,6 +10,7 @@ pub mod Pools
 pub mod Ranging
 pub mod Revising
 pub mod Rows
+pub mod Sameness
 pub mod Shared
 pub mod TermRows
 pub mod UpdateSets

@@ -1,3 +1,4 @@
+pub mod Choosing
 pub mod Env
 pub mod Exact
 pub mod Extending

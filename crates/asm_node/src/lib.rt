@@ -1,6 +1,7 @@
 //! Terms and rules as nodes, and what they mean.
 #![tactic(auto)]
 
+mod choosing_law;
 mod env;
 mod extending_law;
 mod input;
@@ -16,8 +17,9 @@ mod term;
 mod tests;
 mod words;
 
-pub use extending_law::steps_extend;
+pub use choosing_law::words_are_choices;
 pub use env::{Binding, Env};
+pub use extending_law::steps_extend;
 pub use input::Input;
 pub use model::{Definition, Definitions, InitialTerms, MacroRule, Model, Rules, Terms};
 pub use operator::{Op, Quantifier};

@@ -1,3 +1,4 @@
+pub mod Closed
 pub mod Extending
 pub mod Inputs
 pub mod Listing

@@ -1,5 +1,6 @@
 pub mod ChoosingPaths
 pub mod ChoosingWords
+pub mod Closed
 pub mod Continuing
 pub mod Exactly
 pub mod Extending

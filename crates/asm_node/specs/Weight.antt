@@ -1,5 +1,5 @@
 -- How much stands in terms and in what variables stand for: evaluation ends since it falls.
-use Rattle.std.specs.Prelude.{ℕ, ◌+◌, ◌*◌, ◌≤◌, ⊤}
+use Rattle.std.specs.Prelude.{ℕ, ◌+◌, ◌*◌, ◌≤◌, ⊤, length}
 use Rattle.asm_node.specs.declared.env.Env.{Env}
 use Rattle.asm_node.specs.declared.env.Entries.{Entries}
 use Rattle.asm_node.specs.declared.env.Entries as entries
@@ -17,7 +17,7 @@ abbrev mutual
   nodes (Oper o ts) = 1 + nodes_all ts
   nodes (Cond g t u) = 1 + nodes g + nodes t + nodes u
   nodes (Let x t u) = 1 + nodes t + nodes u
-  nodes (Quant q bs g) = 1 + nodes g
+  nodes (Quant q bs g) = 1 + length bs + nodes g
 
   pub nodes_all : Trees → ℕ
   nodes_all none = 0

@@ -20,7 +20,7 @@ pub enum Binding {
     /// Nothing: the variable is `undef`.
     Free,
     Value(Value),
-    /// A closed term.
+    /// A term, whose variables stand for nothing.
     Node(Rc<Term>),
     /// A domain, a term inside it, and what the term's variables stand for.
     Actual(u32, Rc<Term>, Env),
@@ -63,9 +63,9 @@ impl Env {
         })
     }
 
-    /// The variable stands for the closed term of a node.
+    /// The variable stands for the term of a node. Variables of that term stand for nothing.
     pub fn node(&self, variable: u32, term: &Rc<Term>) -> Result<Env, AllocError>
-        ensures { IfOk result (λ env. places_of env ≡ put variable (plain term.now.value) (places_of self.now)) }
+        ensures { IfOk result (λ env. places_of env ≡ put variable (close nowhere (plain term.now.value)) (places_of self.now)) }
     {
         let rest = self.shared()?;
         Ok(Env {

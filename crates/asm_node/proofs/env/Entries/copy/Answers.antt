@@ -1,6 +1,6 @@
 use Rattle.std.proofs.Common.{◌+◌, ◌*◌, sym, ap, ◌∙◌}
 use Rattle.asm_node.specs.Tree.{Const, Within, plain}
-use Rattle.asm_node.specs.Term.{put, close}
+use Rattle.asm_node.specs.Term.{nowhere, put, close}
 use Rattle.asm_node.specs.Env.{places_in}
 use Rattle.asm_node.specs.Weight.{nodes, weight_in}
 use Rattle.asm_node.proofs.env.Entries.copy.Goals as goal
@@ -15,7 +15,7 @@ returns-in_ok-clone-in-Value-clause-weight c =
 
 pub returns-in_ok-clone-in-Node-2-clause-places : goal.returns-in_ok-clone-in-Node-2-clause-places
 returns-in_ok-clone-in-Node-2-clause-places c =
-    (λ i. put c.in-Node.variable (plain (c.in_ok-clone-in-Node.ensures.cases i)) (places_in (c.in_ok-clone-in-Node-2.ensures.cases i)))
+    (λ i. put c.in-Node.variable (close nowhere (plain (c.in_ok-clone-in-Node.ensures.cases i))) (places_in (c.in_ok-clone-in-Node-2.ensures.cases i)))
     ∙ sym (ap places_in c.in-Node.is)
 
 pub returns-in_ok-clone-in-Node-2-clause-weight : goal.returns-in_ok-clone-in-Node-2-clause-weight

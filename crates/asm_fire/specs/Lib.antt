@@ -1,0 +1,5 @@
+pub mod Answer
+pub mod Fault
+pub mod Guard
+pub mod Sound
+pub mod Work

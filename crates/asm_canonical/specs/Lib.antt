@@ -4,3 +4,4 @@ pub mod Rules
 pub mod Units
 pub mod Placeless
 pub mod Pieces
+pub mod Law

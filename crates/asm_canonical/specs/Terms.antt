@@ -111,7 +111,7 @@ abbrev pub infixed : Op → Doc → Doc → Doc
 infixed o x y l = parenthesized_if (nat_lt (level o) l) (spaced (x (left_level o) ∷ word (sign o) ∷ y (right_level o) ∷ []))
 
 abbrev pub prefixed : Op → Doc → Doc → List Item
-prefixed o x y = One (sign o) ∷ arguments (x (left_level o) ∷ y (right_level o) ∷ [])
+prefixed o x y = word (sign o) ++ parenthesized (x (left_level o) ++ (One (codes ",") ∷ Gap ∷ y (right_level o)))
 
 abbrev pub binary : Op → Doc → Doc → Doc
 binary o x y l = if is_infix o then infixed o x y l else prefixed o x y
@@ -119,9 +119,9 @@ binary o x y l = if is_infix o then infixed o x y l else prefixed o x y
 abbrev pub unary_operation : UnaryOp → Doc → Doc
 unary_operation unary.Not x l = parenthesized_if (nat_lt 5 l) (spaced (word (codes "not") ∷ x 5 ∷ []))
 unary_operation unary.Negate x l = parenthesized_if (nat_lt 9 l) (word (codes "-") ++ x 9)
-unary_operation unary.Abs x l = word (codes "abs") ++ arguments (x 1 ∷ [])
-unary_operation unary.IsDefined x l = word (codes "isDef") ++ arguments (x 1 ∷ [])
-unary_operation unary.IsUndefined x l = word (codes "isUndef") ++ arguments (x 1 ∷ [])
+unary_operation unary.Abs x l = word (codes "abs") ++ parenthesized (x 1)
+unary_operation unary.IsDefined x l = word (codes "isDef") ++ parenthesized (x 1)
+unary_operation unary.IsUndefined x l = word (codes "isUndef") ++ parenthesized (x 1)
 
 abbrev pub truth : Bool → List ℕ
 truth true = codes "true"

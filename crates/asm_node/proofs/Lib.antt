@@ -3,6 +3,7 @@ pub mod Extending
 pub mod Inputs
 pub mod Listing
 pub mod Pools
+pub mod Ranging
 pub mod Revising
 pub mod Rows
 pub mod Shared

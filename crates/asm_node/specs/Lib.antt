@@ -3,6 +3,7 @@ pub mod Exact
 pub mod Machine
 pub mod Model
 pub mod Pool
+pub mod Range
 pub mod RuleTree
 pub mod Step
 pub mod Taking

@@ -7,6 +7,7 @@ mod model;
 mod operator;
 mod path;
 mod pool;
+mod range;
 mod rule;
 mod stop;
 mod term;
@@ -20,6 +21,7 @@ pub use model::{Definition, Definitions, InitialTerms, MacroRule, Model, Rules, 
 pub use operator::{Op, Quantifier};
 pub use path::{Path, Step, Values};
 pub use pool::Pool;
+pub use range::numbers_stay_in_range;
 pub use rule::{Rule, RuleKind};
 pub use stop::Stop;
 pub use term::{Binder, Term, TermKind};

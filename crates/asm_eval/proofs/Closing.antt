@@ -1,18 +1,17 @@
 -- A term with closed terms in the places of its variables has the value of the term, and where it is exact the term is.
-use Rattle.std.proofs.Common.{◌≡◌, ℕ, zero, suc, ◌+◌, ◌<◌, true, false, if◌then◌else◌, List, [], ◌∷◌, ◌++◌, map, length, get_or, nat_eq, slice_get, T, eqb→eq, refl, sym, ap, ◌∙◌, subst, ◌⊎◌, inl, inr, arith}
+use Rattle.std.proofs.Common.{◌≡◌, ℕ, zero, suc, true, false, if◌then◌else◌, List, [], ◌∷◌, ◌++◌, map, length, nat_eq, slice_get, T, eqb→eq, refl, sym, ap, ◌∙◌, subst, ◌⊎◌, inl, inr, arith}
 use Rattle.std.specs.Bool.{⊤}
 use Rattle.std.specs.Prelude.{MatchBool, Contains}
 use Rattle.std.specs.List.{flat_map}
 use Rattle.asm_domain.specs.declared.value.Value.{Value}
-use Rattle.asm_domain.specs.declared.value.Value.TheVariants.{Undef, Bool}
-use Rattle.asm_sign.specs.Tuples.{tuples}
+use Rattle.asm_domain.specs.declared.value.Value.TheVariants.{Undef}
 use Rattle.asm_sign.specs.Arguments.{elements_at}
 use Rattle.asm_node.specs.declared.term.Binder.{Binder}
 use Rattle.asm_node.specs.Tree.{Tree, Const, Var, Within, Get, Oper, Cond, Let, Quant, Trees, none, more}
 use Rattle.asm_node.specs.Values.{result_of, quantified, within}
 use Rattle.asm_node.specs.Machine.{tuples_of}
 use Rattle.asm_node.specs.Term.{World, Calls, Reads, Outcome, Gives, and_then, unbound, with_value, with_tuple, branch, read, guard_values, value_of, values_of, Places, nowhere, put, keep, close, close_all}
-use Rattle.asm_node.specs.Exact.{Each, but, but_all, nothing, OfCalls, IsOfCall, IsSmall, IsExactIn, AreExactIn}
+use Rattle.asm_node.specs.Exact.{Each, but, but_all, nothing, OfCalls, IsExactIn, AreExactIn}
 use Rattle.asm_node.proofs.Closed.{IsClosed}
 
 -- all items of a list have a length

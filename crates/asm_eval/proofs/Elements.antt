@@ -1,5 +1,5 @@
 -- Which values are elements.
-use Rattle.std.proofs.Common.{◌≡◌, ℕ, zero, suc, ◌+◌, ◌<◌, Bool as Truth, true, false, ◌&&◌, ◌||◌, List, [], ◌∷◌, length, drop, get_or, slice_get, nat_eq, Option, Some, None, is_some, refl, sym, ap, ◌∙◌, subst, true≢false, eq-eqb, drop-cons, add-one, arith}
+use Rattle.std.proofs.Common.{◌≡◌, ℕ, zero, suc, ◌+◌, ◌<◌, Bool as Truth, true, false, ◌&&◌, ◌||◌, List, [], ◌∷◌, length, drop, get_or, slice_get, Option, Some, None, is_some, refl, sym, ap, ◌∙◌, true≢false, eq-eqb, drop-cons, add-one, arith}
 use Rattle.std.specs.Ordering.{is_eq}
 use Rattle.std.specs.Cmp.{int_cmp_total, tied_itself}
 use Rattle.std.specs.List.{list_any}

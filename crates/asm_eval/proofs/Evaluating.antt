@@ -1,17 +1,15 @@
 -- How the value of a term follows from those of its parts.
-use Rattle.std.proofs.Common.{append_assoc, add-one, drop-cons, eq-eqb, ◌≡◌, ℕ, zero, suc, ◌+◌, ◌-◌, ◌*◌, ◌≤◌, ◌<◌, true, false, if◌then◌else◌, List, [], ◌∷◌, ◌++◌, refl, sym, ap, ◌∙◌, subst, arith, length, drop, slice_get, nat_eq, Some, None, Option, get_or}
+use Rattle.std.proofs.Common.{append_assoc, add-one, drop-cons, ◌≡◌, ℕ, zero, suc, ◌+◌, ◌-◌, ◌*◌, ◌≤◌, ◌<◌, true, false, if◌then◌else◌, List, [], ◌∷◌, ◌++◌, refl, sym, ap, ◌∙◌, subst, arith, length, drop, slice_get, nat_eq, Some, Option, get_or}
 use mathlib.Core.Former.{Count}
-use Rattle.std.specs.Bool.{⊤}
 use Rattle.std.specs.declared.rc.Rc.{Rc}
 use Rattle.std.specs.declared.alloc.Global.{Global}
 use Rattle.asm_domain.specs.declared.value.Value.{Value}
-use Rattle.asm_domain.specs.declared.value.Value.TheVariants.{Undef}
 use Rattle.asm_sign.specs.declared.function.Function.{Function}
 use Rattle.asm_node.specs.declared.operator.Op.{Op}
 use Rattle.asm_node.specs.declared.term.Term.{Term}
 use Rattle.asm_node.specs.declared.term.TermKind.{TermKind, Row_of-TermKind-Get-1-1, end_of-TermKind-Get-1-1, more_of-TermKind-Get-1-1, items-the_row-TermKind-Get-1-1, items_hidden-the_row-TermKind-Get-1-1-0}
 use Rattle.asm_node.specs.declared.term.TermKind as node
-use Rattle.asm_node.specs.Tree.{Tree, Trees, Get, Oper, more, plain, plain_kind, plain_row, plain_all}
+use Rattle.asm_node.specs.Tree.{Get, Oper, more, plain, plain_kind, plain_row, plain_all}
 use Rattle.asm_node.specs.Values.{within}
 use Rattle.asm_node.specs.Machine.{Definition, definition_of}
 use Rattle.asm_node.specs.Term.{World, Reads, Calls, Outcome, Gives, Needs, and_then, value_of, values_of, guard_values, calls_within, value_of_function, defined_value, parameters_have}

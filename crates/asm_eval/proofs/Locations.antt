@@ -1,5 +1,5 @@
 -- The slot of a location, and what is at it.
-use Rattle.std.proofs.Common.{◌≡◌, ℕ, zero, suc, ◌+◌, ◌<◌, cond, Bool as Truth, true, false, ◌&&◌, List, [], ◌∷◌, length, get_or, slice_get, nat_eq, T, eqb→eq, eq-eqb, Option, Some, None, if◌then◌else◌, refl, sym, ap, ◌∙◌, subst, true≢false}
+use Rattle.std.proofs.Common.{◌≡◌, ℕ, zero, suc, ◌+◌, cond, Bool as Truth, true, false, ◌&&◌, List, [], ◌∷◌, get_or, slice_get, nat_eq, T, eqb→eq, eq-eqb, Option, Some, None, if◌then◌else◌, refl, sym, ap, ◌∙◌, subst, true≢false}
 use Rattle.std.specs.Option.{unwrap_or}
 use Rattle.std.specs.List.{position, position_from}
 use Rattle.std.specs.FinMap.{get}
@@ -12,7 +12,7 @@ use Rattle.asm_domain.specs.Universe.{IsRank}
 use Rattle.asm_sign.specs.Vocabulary.{Vocabulary, locations}
 use Rattle.asm_sign.specs.declared.function.FunKind.{FunKind}
 use Rattle.asm_sign.specs.Kind.{is_kept}
-use Rattle.asm_node.specs.Values.{same, same_all}
+use Rattle.asm_node.specs.Values.{same_all}
 use Rattle.asm_node.specs.Machine.{same_location, slot_at}
 use Rattle.asm_node.specs.Term.{World, Gives, given, state_value, input_value}
 use Rattle.asm_node.proofs.UpdateSets.{same_is}

@@ -5,8 +5,8 @@ use Rattle.std.specs.Prelude.{MatchBool}
 use Rattle.asm_domain.specs.declared.value.Value.{Value}
 use Rattle.asm_node.specs.declared.term.Binder.{Binder}
 use Rattle.asm_node.specs.Tree.{Tree, Trees, Const}
-use Rattle.asm_node.specs.Term.{World, Reads, Outcome, Gives, unbound, with_value, with_tuple, parameters_have, value_of, calls_within, Places, nowhere, put, put_tuple, close, close_all}
-use Rattle.asm_node.specs.Exact.{Each, but, but_all, nothing, exact_within, IsExactIn, AreExactIn}
+use Rattle.asm_node.specs.Term.{World, Gives, unbound, with_value, with_tuple, parameters_have, value_of, calls_within, Places, put, put_tuple, close, close_all}
+use Rattle.asm_node.specs.Exact.{but, but_all, nothing, exact_within, IsExactIn, AreExactIn}
 use Rattle.asm_node.proofs.Closed.{IsClosed}
 use Rattle.asm_eval.specs.World.{reads_by, value_by, each_by, IsExactBy, AreExactBy, parameters_at}
 use Rattle.asm_eval.proofs.Closing.{value_of-close, exact-close, exact_all-close, closed-value, closed-exact, weaker}

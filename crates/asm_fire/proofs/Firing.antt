@@ -2,7 +2,6 @@
 use Rattle.std.proofs.Common.{add-one, drop-cons, ◌≡◌, ℕ, zero, suc, ◌+◌, ◌-◌, ◌*◌, ◌≤◌, ◌<◌, Bool as Truth, true, false, true≢false, nat_eq, is_some, List, [], ◌∷◌, ◌++◌, Option, Some, None, length, drop, slice_get, get_or, if◌then◌else◌, refl, sym, ap, ◌∙◌, subst, arith}
 use Prim.Native.Nat.{min}
 use mathlib.Core.Former.{Count}
-use Rattle.std.specs.Bool.{⊤}
 use Rattle.std.specs.Prelude.{IsNone}
 use Rattle.std.specs.FinSet as set
 use Rattle.std.specs.declared.rc.Rc.{Rc}

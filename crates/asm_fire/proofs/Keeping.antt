@@ -1,10 +1,10 @@
 -- What a sound rule gives, a state takes.
-use Rattle.std.proofs.Common.{◌≡◌, ℕ, zero, suc, ◌+◌, ◌<◌, Bool as Truth, true, false, cond, not, ◌&&◌, ◌||◌, if◌then◌else◌, List, [], ◌∷◌, ◌++◌, length, get_or, nat_eq, filter, find, slice_get, Option, Some, None, option_map, unwrap_or, is_some, T, eqb→eq, eq-eqb, refl, sym, ap, ◌∙◌, subst, true≢false, arith, ◌⊎◌, inl, inr}
+use Rattle.std.proofs.Common.{◌≡◌, ℕ, zero, suc, ◌<◌, Bool as Truth, true, false, not, ◌&&◌, ◌||◌, if◌then◌else◌, List, [], ◌∷◌, ◌++◌, length, get_or, nat_eq, find, slice_get, Option, Some, None, option_map, unwrap_or, is_some, T, eqb→eq, refl, sym, ap, ◌∙◌, subst, true≢false, arith, ◌⊎◌, inl, inr}
 use Rattle.std.specs.Bool.{⊤}
 use Rattle.std.specs.Prelude.{IsTrue, Contains, slice_index_or, ◌%◌}
 use Rattle.std.specs.Option.{IsSome}
 use Rattle.std.specs.Ordering.{eq_by_cmp}
-use Rattle.std.specs.List.{list_any, list_all}
+use Rattle.std.specs.List.{list_any}
 use Rattle.std.specs.FinSet as set
 use Rattle.std.specs.FinMap.{get}
 use Rattle.asm_io.specs.declared.sources.Place.{Place}
@@ -12,19 +12,18 @@ use Rattle.asm_domain.specs.declared.value.Value.{Value}
 use Rattle.asm_domain.specs.declared.value.Value.TheVariants.{Undef, Bool, Int, Elem}
 use Rattle.asm_sign.specs.declared.function.Function.{Function}
 use Rattle.asm_sign.specs.Kind.{is_kept}
-use Rattle.asm_sign.specs.Vocabulary.{Vocabulary, locations, function_at, function_of}
+use Rattle.asm_sign.specs.Vocabulary.{locations, function_at, function_of}
 use Rattle.asm_node.specs.declared.path.Step.TheVariants.{Part, Called, Bound}
-use Rattle.asm_node.specs.declared.term.Binder.{Binder}
-use Rattle.asm_node.specs.Tree.{Tree, Trees, Const}
+use Rattle.asm_node.specs.Tree.{Trees, Const}
 use Rattle.asm_node.specs.RuleTree.{Rule, Rules, Skip, Update, Par, Seq, If, Let, Forall, Choose, Call, none, more}
 use Rattle.asm_node.specs.Values.{same, whole, is_whole, is_element, is_undef, same_all}
 use Rattle.asm_sign.specs.Arguments.{elements_at}
 use Rattle.asm_update.specs.Clash.{HaveLocations}
 use Rattle.std.proofs.lemmas.Bool.{ne_eqb}
-use Rattle.asm_node.specs.Machine.{Machine, Macro, State, Input, tuples_of, has_kind, slot_at, same_location, revised}
-use Rattle.asm_node.specs.Term.{World, Outcome, Gives, Needs, Places, put, put_tuple, val, vals, branch}
+use Rattle.asm_node.specs.Machine.{Machine, Macro, State, Input, tuples_of, has_kind, slot_at, same_location}
+use Rattle.asm_node.specs.Term.{Outcome, Gives, Needs, Places, put, put_tuple, val, vals, branch}
 use Rattle.asm_node.specs.UpdateSet.{UpdateSet, Pair, pair_cmp, ranked_values, one, consistent, touches, override, value_at, fire}
-use Rattle.asm_node.specs.Taking.{Attempt, Yields, Faults, Pick, Bodies, Path, and_then, evaluated, valued, updated, update, each, guarded, candidates, chosen, after_set, fired, taken, taken_all, bodies_within, body_taken, by_words, stand_for}
+use Rattle.asm_node.specs.Taking.{Attempt, Yields, Faults, Bodies, Path, and_then, evaluated, valued, updated, update, each, guarded, candidates, chosen, after_set, taken, taken_all, bodies_within, body_taken, by_words, stand_for}
 use Rattle.asm_node.specs.Step.{IsState, may_have}
 use Rattle.asm_node.proofs.UpdateSets.{pair_total, pair_apart, same_is}
 use Rattle.asm_node.proofs.Revising.{get-revised, has-revised}

@@ -1,5 +1,5 @@
 use Prim.Native.Nat.{min}
-use Rattle.std.proofs.Common.{◌≡◌, ℕ, zero, suc, ◌≤◌, List, [], ◌∷◌, length, drop, refl, sym, subst, ◌∙◌, arith}
+use Rattle.std.proofs.Common.{◌≡◌, ℕ, zero, suc, List, [], ◌∷◌, length, drop, refl, sym, ◌∙◌, arith}
 use Rattle.asm_domain.specs.declared.value.Value.{Value}
 use Rattle.asm_node.specs.declared.term.Binder.{Binder}
 use Rattle.asm_node.specs.Term.{Places, put_tuple}

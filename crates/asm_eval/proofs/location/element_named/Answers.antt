@@ -1,9 +1,9 @@
-use Rattle.std.proofs.Common.{◌≡◌, ℕ, ◌+◌, ◌<◌, List, length, Option, Some, None, slice_get, option_map, unwrap_or, refl, sym, ap, ◌∙◌, arith}
+use Rattle.std.proofs.Common.{◌≡◌, ℕ, ◌+◌, ◌<◌, List, length, Some, slice_get, option_map, unwrap_or, sym, ap, ◌∙◌, arith}
 use Rattle.std.specs.List.{position}
 use Rattle.std.proofs.lemmas.List.Quantifiers.{position-Some}
 use Rattle.asm_domain.specs.declared.value.Value.{Value}
 use Rattle.asm_domain.specs.declared.value.Value.TheVariants.{Undef, Elem}
-use Rattle.asm_domain.specs.Universe.{Universe, Truths, Numbers, Named, elements, names_of, named_from}
+use Rattle.asm_domain.specs.Universe.{Universe, Truths, Numbers, Named, elements, names_of}
 use Rattle.asm_domain.proofs.Elements.{length-named_from, get-named_from}
 use Rattle.asm_node.specs.Machine.{same_name, element_named}
 use Rattle.asm_eval.proofs.location.element_named.Goals as goal

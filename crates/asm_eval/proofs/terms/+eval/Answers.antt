@@ -1,4 +1,4 @@
-use Rattle.std.proofs.Common.{slice_get, Some, length, drop, ◌+◌, ◌-◌, ◌*◌, ◌≤◌, ◌<◌, ◌≡◌, true, false, List, ◌∷◌, ◌++◌, sym, ap, subst, ◌∙◌, refl, arith}
+use Rattle.std.proofs.Common.{slice_get, length, drop, ◌+◌, ◌-◌, ◌*◌, ◌≤◌, ◌<◌, ◌≡◌, true, false, List, ◌∷◌, ◌++◌, sym, ap, subst, ◌∙◌, refl, arith}
 use Rattle.std.specs.Prelude.{Contains}
 use Rattle.std.proofs.lemmas.Result.{err_from_is_err_and}
 use Rattle.asm_domain.specs.declared.value.Value.{Value}
@@ -7,7 +7,7 @@ use Rattle.asm_node.specs.Env.{places_of, Holds}
 use Rattle.asm_node.specs.Exact.{IsSmall, IsOfCall, IsExactIn, nothing, exact_within}
 use Rattle.asm_node.specs.Machine.{tuples_of}
 use Rattle.asm_node.specs.Model.{machine_of, defined_by}
-use Rattle.asm_node.specs.Term.{Outcome, Gives, and_then, branch, read, with_value, with_tuple, put_tuple, guard_values, nowhere, unbound, value_of, calls_within}
+use Rattle.asm_node.specs.Term.{Outcome, Gives, and_then, branch, read, with_value, put_tuple, guard_values, nowhere, unbound, value_of, calls_within}
 use Rattle.asm_node.specs.Tree.{plain, plain_kind, plain_all}
 use Rattle.asm_node.specs.Values.{result_of, quantified, within}
 use Rattle.asm_node.specs.Weight.{nodes, nodes_all, weight_of, IsLighter}

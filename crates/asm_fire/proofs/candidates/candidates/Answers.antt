@@ -1,11 +1,11 @@
-use Rattle.std.proofs.Common.{◌≡◌, ℕ, List, [], ◌∷◌, ◌++◌, ◌+◌, if◌then◌else◌, drop, refl, sym, ap, subst, ◌∙◌}
+use Rattle.std.proofs.Common.{List, [], ◌∷◌, ◌++◌, ◌+◌, if◌then◌else◌, drop, sym, ap, subst, ◌∙◌}
 use Rattle.std.proofs.lemmas.Result.{err_from_is_err_and}
 use Rattle.asm_domain.specs.declared.value.Value.{Value}
 use Rattle.asm_node.specs.declared.stop.Stop.TheVariants.{UndefGuard}
 use Rattle.asm_node.specs.Env.{places_of}
 use Rattle.asm_node.specs.Model.{machine_of}
 use Rattle.asm_node.specs.Taking.{Faults, candidates, evaluated}
-use Rattle.asm_node.specs.Term.{Outcome, Gives, branch, put_tuple, val}
+use Rattle.asm_node.specs.Term.{Outcome, branch, put_tuple, val}
 use Rattle.asm_node.specs.Tree.{plain}
 use Rattle.asm_eval.specs.Answer.{Ends}
 use Rattle.asm_eval.specs.World.{world_in}

@@ -9,7 +9,6 @@ use Rattle.asm_eval.specs.World.{world_in}
 use Rattle.asm_fire.specs.Answer.{Fires}
 use Rattle.asm_fire.specs.Guard.{truth_of}
 use Rattle.asm_fire.proofs.Firing.{halts-evaluated}
-use Rattle.asm_fire.proofs.Keeping.{kept-taken}
 use Rattle.asm_fire.proofs.candidates.guard_of.Goals as goal
 
 pub returns-in_err-value : goal.returns-in_err-value

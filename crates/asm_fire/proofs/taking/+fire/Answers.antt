@@ -1,4 +1,4 @@
-use Rattle.std.proofs.Common.{◌≡◌, ℕ, ◌+◌, ◌-◌, ◌*◌, ◌<◌, ◌≤◌, true, false, List, [], ◌∷◌, ◌++◌, length, drop, slice_get, T, eqb→eq, refl, sym, ap, subst, ◌∙◌, arith}
+use Rattle.std.proofs.Common.{◌≡◌, ℕ, ◌+◌, ◌-◌, ◌*◌, ◌<◌, ◌≤◌, true, List, [], ◌∷◌, ◌++◌, length, drop, slice_get, T, eqb→eq, refl, sym, ap, subst, ◌∙◌, arith}
 use Rattle.std.specs.Prelude.{Contains, ◌%◌}
 use Rattle.std.specs.Option.{IsSome}
 use Rattle.std.specs.FinSet as set
@@ -312,9 +312,10 @@ fire_all-returns-in_err-updates g t c =
 
 pub fire_all-loop-rule-preserved : goal.fire_all-loop-rule-preserved
 fire_all-loop-rule-preserved g t c =
-    let w = world_in (machine_of c.args.world.now.model.now) (g.S.Store.state c.args.world.now.store.now) c.args.world.now.input.now in
-    (λ path. (c.loop-rule.invariant.0 path ∙ taken_all-drop (bodies_within by_words c.args.count) path c.loop-rule.rule-index w (places_of c.args.env.now) c.args.rules.now c.loop-rule.rule-index c.rule-item.result c.loop-rule.all (left c.loop-rule.words) c.loop-rule-test.true c.rule-item.is) ∙ ap (λ a. and_then a (λ v ws. taken_all by_words (bodies_within by_words c.args.count) path (c.loop-rule.rule-index + 1) w (places_of c.args.env.now) (plain_rules (drop (c.loop-rule.rule-index + 1) c.args.rules.now)) (set.union c.loop-rule.all v) ws)) (c.in_ok-updates.ensures.fires (path ++ Part c.loop-rule.rule-index ∷ [])) ∙ ap (λ u. taken_all by_words (bodies_within by_words c.args.count) path (c.loop-rule.rule-index + 1) w (places_of c.args.env.now) (plain_rules (drop (c.loop-rule.rule-index + 1) c.args.rules.now)) u (left c.fire_rule.new.words)) (sym c.in_ok-join.ensures),
-    c.in_ok-updates.ensures.words ∙ c.loop-rule.invariant.1)
+    let w = world_in (machine_of c.args.world.now.model.now) (g.S.Store.state c.args.world.now.store.now) c.args.world.now.input.now in (
+      λ path. (c.loop-rule.invariant.0 path ∙ taken_all-drop (bodies_within by_words c.args.count) path c.loop-rule.rule-index w (places_of c.args.env.now) c.args.rules.now c.loop-rule.rule-index c.rule-item.result c.loop-rule.all (left c.loop-rule.words) c.loop-rule-test.true c.rule-item.is) ∙ ap (λ a. and_then a (λ v ws. taken_all by_words (bodies_within by_words c.args.count) path (c.loop-rule.rule-index + 1) w (places_of c.args.env.now) (plain_rules (drop (c.loop-rule.rule-index + 1) c.args.rules.now)) (set.union c.loop-rule.all v) ws)) (c.in_ok-updates.ensures.fires (path ++ Part c.loop-rule.rule-index ∷ [])) ∙ ap (λ u. taken_all by_words (bodies_within by_words c.args.count) path (c.loop-rule.rule-index + 1) w (places_of c.args.env.now) (plain_rules (drop (c.loop-rule.rule-index + 1) c.args.rules.now)) u (left c.fire_rule.new.words)) (sym c.in_ok-join.ensures),
+      c.in_ok-updates.ensures.words ∙ c.loop-rule.invariant.1,
+    )
 
 pub fire_all-loop-rule-init : goal.fire_all-loop-rule-init
 fire_all-loop-rule-init g t c =
@@ -344,9 +345,10 @@ fire_forall-returns-in_err-updates g t c =
 
 pub fire_forall-loop-tuple-preserved : goal.fire_forall-loop-tuple-preserved
 fire_forall-loop-tuple-preserved g t c =
-    let w = world_in (machine_of c.args.world.now.model.now) (g.S.Store.state c.args.world.now.store.now) c.args.world.now.input.now in
-    (λ path. (c.loop-tuple.invariant.0 path ∙ each-drop (λ vs ws. guarded c.args.place (val w (put_tuple c.args.binders.now vs (places_of c.args.env.now)) (plain c.args.guard.now.value)) (taken by_words (bodies_within by_words c.args.count) (path ++ Bound vs ∷ []) w (put_tuple c.args.binders.now vs (places_of c.args.env.now)) (plain_rule c.args.body.now.value) ws) ws) c.slice-tuple-items.result.now c.loop-tuple.tuple-index c.tuple-item.result c.loop-tuple.all (left c.loop-tuple.words) c.loop-tuple-test.true c.tuple-item.is) ∙ ap (λ a. and_then a (λ v ws. each (λ vs ws. guarded c.args.place (val w (put_tuple c.args.binders.now vs (places_of c.args.env.now)) (plain c.args.guard.now.value)) (taken by_words (bodies_within by_words c.args.count) (path ++ Bound vs ∷ []) w (put_tuple c.args.binders.now vs (places_of c.args.env.now)) (plain_rule c.args.body.now.value) ws) ws) (drop (c.loop-tuple.tuple-index + 1) c.slice-tuple-items.result.now) (set.union c.loop-tuple.all v) ws)) (ap (λ vs. guarded c.args.place (val w (put_tuple c.args.binders.now vs (places_of c.args.env.now)) (plain c.args.guard.now.value)) (taken by_words (bodies_within by_words c.args.count) (path ++ Bound c.tuple-item.result ∷ []) w (put_tuple c.args.binders.now vs (places_of c.args.env.now)) (plain_rule c.args.body.now.value) (left c.loop-tuple.words)) (left c.loop-tuple.words)) (sym c.slice.ensures) ∙ c.in_ok-updates.ensures.fires (path ++ Bound c.tuple-item.result ∷ [])) ∙ ap (λ u. each (λ vs ws. guarded c.args.place (val w (put_tuple c.args.binders.now vs (places_of c.args.env.now)) (plain c.args.guard.now.value)) (taken by_words (bodies_within by_words c.args.count) (path ++ Bound vs ∷ []) w (put_tuple c.args.binders.now vs (places_of c.args.env.now)) (plain_rule c.args.body.now.value) ws) ws) (drop (c.loop-tuple.tuple-index + 1) c.slice-tuple-items.result.now) u (left c.fire_at.new.words)) (sym c.in_ok-join.ensures),
-    c.in_ok-updates.ensures.words ∙ c.loop-tuple.invariant.1)
+    let w = world_in (machine_of c.args.world.now.model.now) (g.S.Store.state c.args.world.now.store.now) c.args.world.now.input.now in (
+      λ path. (c.loop-tuple.invariant.0 path ∙ each-drop (λ vs ws. guarded c.args.place (val w (put_tuple c.args.binders.now vs (places_of c.args.env.now)) (plain c.args.guard.now.value)) (taken by_words (bodies_within by_words c.args.count) (path ++ Bound vs ∷ []) w (put_tuple c.args.binders.now vs (places_of c.args.env.now)) (plain_rule c.args.body.now.value) ws) ws) c.slice-tuple-items.result.now c.loop-tuple.tuple-index c.tuple-item.result c.loop-tuple.all (left c.loop-tuple.words) c.loop-tuple-test.true c.tuple-item.is) ∙ ap (λ a. and_then a (λ v ws. each (λ vs ws. guarded c.args.place (val w (put_tuple c.args.binders.now vs (places_of c.args.env.now)) (plain c.args.guard.now.value)) (taken by_words (bodies_within by_words c.args.count) (path ++ Bound vs ∷ []) w (put_tuple c.args.binders.now vs (places_of c.args.env.now)) (plain_rule c.args.body.now.value) ws) ws) (drop (c.loop-tuple.tuple-index + 1) c.slice-tuple-items.result.now) (set.union c.loop-tuple.all v) ws)) (ap (λ vs. guarded c.args.place (val w (put_tuple c.args.binders.now vs (places_of c.args.env.now)) (plain c.args.guard.now.value)) (taken by_words (bodies_within by_words c.args.count) (path ++ Bound c.tuple-item.result ∷ []) w (put_tuple c.args.binders.now vs (places_of c.args.env.now)) (plain_rule c.args.body.now.value) (left c.loop-tuple.words)) (left c.loop-tuple.words)) (sym c.slice.ensures) ∙ c.in_ok-updates.ensures.fires (path ++ Bound c.tuple-item.result ∷ [])) ∙ ap (λ u. each (λ vs ws. guarded c.args.place (val w (put_tuple c.args.binders.now vs (places_of c.args.env.now)) (plain c.args.guard.now.value)) (taken by_words (bodies_within by_words c.args.count) (path ++ Bound vs ∷ []) w (put_tuple c.args.binders.now vs (places_of c.args.env.now)) (plain_rule c.args.body.now.value) ws) ws) (drop (c.loop-tuple.tuple-index + 1) c.slice-tuple-items.result.now) u (left c.fire_at.new.words)) (sym c.in_ok-join.ensures),
+      c.in_ok-updates.ensures.words ∙ c.loop-tuple.invariant.1,
+    )
 
 pub fire_forall-loop-tuple-init : goal.fire_forall-loop-tuple-init
 fire_forall-loop-tuple-init g t c =

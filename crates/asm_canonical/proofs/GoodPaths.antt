@@ -280,19 +280,29 @@ content_items c = lines 0 (map units.import_doc c.0)
 abbrev LikeContent : Content → Content → Type 0
 LikeContent c e = (map plain.plain_path e.0 ≡ map plain.plain_path c.0) × ((map plain.plain_declaration e.1.0 ≡ map plain.plain_declaration c.1.0) × (map plain.plain_definition e.1.1 ≡ map plain.plain_definition c.1.1))
 
-content_good : (c : Content) → M content c → Good content (content_items c) (LikeContent c)
-unfolding number class_of content export imports declarations definitions
-content_good c m =
-    let paths = every (M (after class.Import path)) (M path) (behind class.Import path (M path) (λ p n. n)) c.0 m.0 in
-    let rest = behind class.Signature (after class.Colon (both declarations (after class.Definitions (after class.Colon definitions)))) (λ p. Every (M declaration) p.0 × Every (M definition) p.1)
-    (behind class.Colon (both declarations (after class.Definitions (after class.Colon definitions))) (λ p. Every (M declaration) p.0 × Every (M definition) p.1)
-    (λ p n. (n.0, behind class.Definitions (after class.Colon definitions) (Every (M definition)) (behind class.Colon definitions (Every (M definition)) (λ ds k. k)) p.1 n.1))) m.1.0.1 m.1.2.1 in
-    let known = subst (λ (p : List RawDeclaration × List RawDefinition). Every (M declaration) p.0 × Every (M definition) p.1) (sym m.1.1) rest in
+abbrev KnownContent : List RawDeclaration × List RawDefinition → Type 0
+KnownContent p = Every (M declaration) p.0 × Every (M definition) p.1
+
+-- the declarations and definitions behind an export
+content_known : (c : List RawDeclaration × List RawDefinition) → M (shown (λ (p : List RawName × (List RawDeclaration × List RawDefinition)). p.1) (both export (after class.Signature (after class.Colon (both declarations (after class.Definitions (after class.Colon definitions))))))) c → KnownContent c
+unfolding declarations definitions
+content_known c m =
+    subst KnownContent (sym m.1) (behind class.Signature (after class.Colon (both declarations (after class.Definitions (after class.Colon definitions)))) KnownContent
+    (behind class.Colon (both declarations (after class.Definitions (after class.Colon definitions))) KnownContent
+    (λ p n. (n.0, behind class.Definitions (after class.Colon definitions) (Every (M definition)) (behind class.Colon definitions (Every (M definition)) (λ ds k. k)) p.1 n.1))) m.0.1 m.2.1)
+
+content_built : (c : Content) → Every (M path) c.0 → KnownContent c.1 → Good content (content_items c) (LikeContent c)
+unfolding number class_of content export declarations definitions
+content_built c paths k =
     good_both {a = lines 0 (map units.import_doc c.0)} (imports_good c.0 paths) leads_line
     (good_shown {Q = λ e. (map plain.plain_declaration e.0 ≡ map plain.plain_declaration c.1.0) × (map plain.plain_definition e.1 ≡ map plain.plain_definition c.1.1)} (good_both {a = []} (good_right (good_nothing {P = λ z. Unit {0}} tt)) leads_line (good_line
     (good_after (is_kind refl) (joins_leads (word_stops (codes "signature") refl) (leads_byte refl)) (good_after (is_kind refl) (joins_leads stops_colon (leads_lines_then 1 0 (map units.declaration_doc c.1.0) _))
-    (good_both {a = lines 1 (map units.declaration_doc c.1.0)} (declarations_good c.1.0 known.0) leads_line (good_line
-    (good_after (is_kind refl) (joins_leads (word_stops (codes "definitions") refl) (leads_byte refl)) (good_after (is_kind refl) (joins_leads stops_colon (leads_lines 1 (map units.definition_doc c.1.1))) (definitions_good c.1.1 known.1))))))))) (λ p h. h.1))
+    (good_both {a = lines 1 (map units.declaration_doc c.1.0)} (declarations_good c.1.0 k.0) leads_line (good_line
+    (good_after (is_kind refl) (joins_leads (word_stops (codes "definitions") refl) (leads_byte refl)) (good_after (is_kind refl) (joins_leads stops_colon (leads_lines 1 (map units.definition_doc c.1.1))) (definitions_good c.1.1 k.1))))))))) (λ p h. h.1))
+
+content_good : (c : Content) → M content c → Good content (content_items c) (LikeContent c)
+unfolding content imports
+content_good c m = content_built c (every (M (after class.Import path)) (M path) (behind class.Import path (M path) (λ p n. n)) c.0 m.0) (content_known c.1 m.1)
 
 leads_content : (c : Content) (d : List Item) → Leads (content_items c ++ d)
 leads_content ([], c) d = leads_line

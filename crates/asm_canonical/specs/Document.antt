@@ -18,12 +18,6 @@ abbrev pub text_in : List Item → List ℕ
 text_in [] = []
 text_in (i ∷ d) = item_text i ++ text_in d
 
-abbrev pub tokens_in : List Item → List (List ℕ)
-tokens_in [] = []
-tokens_in (Gap ∷ d) = tokens_in d
-tokens_in (Line n ∷ d) = tokens_in d
-tokens_in (One w ∷ d) = w ∷ tokens_in d
-
 -- what stands at each level: for a term the level of the operators that need no parentheses there, for a rule the level of its lines
 abbrev pub Doc : Type 0
 Doc = ℕ → List Item

@@ -1,7 +1,8 @@
 //! Rules, on lines of their own.
 
-ghost use Rattle.std.specs.Prelude.{◌≡◌, ◌++◌, ◌+◌, OnOk};
-ghost use Rattle.asm_canonical.specs.Document.{text_in};
+ghost use Rattle.std.specs.Prelude.{◌≡◌, ◌++◌, ◌+◌, OnOk, codes, map};
+ghost use Rattle.asm_canonical.specs.Document.{text_in, arguments, commas};
+ghost use Rattle.asm_canonical.specs.Terms.{whole_term};
 ghost use Rattle.asm_canonical.specs.Pieces.{line_text, quantified_text, rules_doc, cases_doc};
 ghost use Rattle.asm_canonical.specs.Rules.{rule_doc, kind_doc, inner};
 
@@ -28,10 +29,7 @@ fn kind(text: &mut Text, kind: &RawRuleKind, level: usize) -> Result<(), AllocEr
 {
     match kind {
         RawRuleKind::Skip => append_str(text, "skip"),
-        RawRuleKind::Update(name, items, value) => {
-            call(text, name.text(), items.slice())?;
-            phrase(text, " := ", value)
-        }
+        RawRuleKind::Update(name, items, value) => update(text, name.text(), items.slice(), value),
         RawRuleKind::Par(items) => block(text, "par", items.slice(), "endpar", level),
         RawRuleKind::Seq(items) => block(text, "seq", items.slice(), "endseq", level),
         RawRuleKind::If(guard, yes, no) => {
@@ -63,13 +61,29 @@ fn kind(text: &mut Text, kind: &RawRuleKind, level: usize) -> Result<(), AllocEr
             append_str(text, "ifnone")?;
             inner(text, none.get(), level)
         }
-        RawRuleKind::Call(name, items) => {
-            append_str(text, name.text())?;
-            append_str(text, "[")?;
-            terms(text, items.slice())?;
-            append_str(text, "]")
-        }
+        RawRuleKind::Call(name, items) => macro_call(text, name.text(), items.slice()),
     }
+}
+
+fn update(
+    text: &mut Text,
+    function: &str,
+    items: &[RawTerm],
+    value: &RawTerm,
+) -> Result<(), AllocError>
+    ensures { OnOk result (text.new ≡ (((text.old ++ function.now) ++ text_in (arguments (map whole_term items.now))) ++ codes " := ") ++ text_in (whole_term value.now)) }
+{
+    call(text, function, items)?;
+    phrase(text, " := ", value)
+}
+
+fn macro_call(text: &mut Text, rule: &str, items: &[RawTerm]) -> Result<(), AllocError>
+    ensures { OnOk result (text.new ≡ (((text.old ++ rule.now) ++ codes "[") ++ text_in (commas (map whole_term items.now))) ++ codes "]") }
+{
+    append_str(text, rule)?;
+    append_str(text, "[")?;
+    terms(text, items)?;
+    append_str(text, "]")
 }
 
 /// Appends a rule on a line of its own, one level deeper.

@@ -1,16 +1,16 @@
 //! Terms, each on one line.
 
-ghost use Rattle.std.specs.Prelude.{◌≡◌, ◌++◌, OnOk, map};
+ghost use Rattle.std.specs.Prelude.{◌≡◌, ◌++◌, OnOk, codes, map};
 ghost use Rattle.asm_canonical.specs.Pieces.{before_one, behind_one, operand_level};
 ghost use Rattle.asm_canonical.specs.Document.{text_in, arguments, behind_gaps, commas};
-ghost use Rattle.asm_canonical.specs.Terms.{term_doc, kind_doc, case_doc, bind_doc, binders_doc, whole_term};
+ghost use Rattle.asm_canonical.specs.Terms.{term_doc, kind_doc, case_doc, bind_doc, binders_doc, quantifier_words, whole_term};
 
 use crate::layout::separator;
 use crate::operands::{before_both, before_one, behind_both, behind_one, middle, operand_level};
 use crate::operator::{left_level, quantifier, right_level, truth};
 use asm_io::{Text, append_number, append_str};
-use asm_tree::UnaryOp;
 use asm_tree::term::{RawBind, RawBinder, RawCase, RawTerm, RawTermKind};
+use asm_tree::{Quantifier, UnaryOp};
 use std::alloc::AllocError;
 
 /// Appends a term where operators of this level and tighter ones need no parentheses.
@@ -61,14 +61,21 @@ fn kind(text: &mut Text, kind: &RawTermKind, at: u8) -> Result<(), AllocError>
             append_str(text, " endlet")
         }
         RawTermKind::Quant(kind, items, guard) => {
-            append_str(text, "(")?;
-            append_str(text, quantifier(*kind))?;
-            append_str(text, " ")?;
-            binders(text, items.slice())?;
+            quantified(text, *kind, items.slice())?;
             phrase(text, " with ", guard.get())?;
             append_str(text, ")")
         }
     }
+}
+
+/// Appends a parenthesis, a quantifier and its variables.
+fn quantified(text: &mut Text, kind: Quantifier, items: &[RawBinder]) -> Result<(), AllocError>
+    ensures { OnOk result (text.new ≡ (((text.old ++ codes "(") ++ quantifier_words kind) ++ codes " ") ++ text_in (binders_doc items.now)) }
+{
+    append_str(text, "(")?;
+    append_str(text, quantifier(kind))?;
+    append_str(text, " ")?;
+    binders(text, items)
 }
 
 /// Appends these words and a term.

@@ -1,4 +1,4 @@
-//! The values of terms, and the initial state.
+//! The values of terms.
 #![tactic(auto)]
 
 mod apply;

@@ -1,2 +1,4 @@
 pub mod Path
 pub mod Import
+pub mod Spelled
+pub mod Loading

@@ -1,4 +1,6 @@
-use crate::{import_name, normalised, reads_no_file};
+use crate::{LoadError, import_name, load_one, normalised, reads_no_file};
+use asm_io::{NoFaultShelf, Place, Sources};
+use asm_lex::LexError;
 use asm_list::{Listed, Name};
 use asm_tree::unit::{RawPart, RawPath};
 use std::alloc::Global;
@@ -50,5 +52,34 @@ fn imports_are_found_from_their_file(rt: HostRuntime) -> Result<(), Fail> {
     }
     assert!(rt; reads_no_file(&path(alloc, &["..", "StandardLibrary"], "")?));
     assert!(rt; !reads_no_file(&path(alloc, &["StandardLibrary", "a"], "")?));
+    Ok(())
+}
+
+fn refusal(alloc: Global, shelf: &mut NoFaultShelf, name: &str) -> Option<LoadError> {
+    let mut sources = Sources::new(alloc);
+    match load_one(alloc, shelf, name, 8, &mut sources) {
+        Ok(_tokens) => None,
+        Err(error) => Some(error),
+    }
+}
+
+#[test]
+fn one_file_is_read(rt: HostRuntime) -> Result<(), Fail> {
+    let alloc = rt.alloc();
+    let mut shelf = NoFaultShelf::new(alloc);
+    shelf.add(alloc, "a/b", b"x := 1")?;
+    shelf.add(alloc, "long", b"xxxxxxxxx")?;
+    shelf.add(alloc, "bad", b"x #")?;
+    let mut sources = Sources::new(alloc);
+    let read = load_one(alloc, &mut shelf, "a/./b", 8, &mut sources);
+    assert!(rt; matches!(&read, Ok(tokens) if tokens.len() == 3));
+    assert_eq!(rt; sources.len(), 1);
+    let long = refusal(alloc, &mut shelf, "long");
+    assert!(rt; matches!(&long, Some(LoadError::TooLong(_name))));
+    let absent = refusal(alloc, &mut shelf, "b/../c");
+    assert!(rt; matches!(&absent, Some(LoadError::Absent(_name))));
+    let bad = refusal(alloc, &mut shelf, "bad");
+    let place = Place { file: 0, at: 2 };
+    assert!(rt; matches!(&bad, Some(LoadError::Lex(at, LexError::BadByte(2))) if *at == place));
     Ok(())
 }

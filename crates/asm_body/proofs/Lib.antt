@@ -1,9 +1,6 @@
+pub mod Ascii
+pub mod Making
 pub mod Tables
 pub mod TokenKinds
-pub mod Checks
-pub mod Opening
-pub mod Starts
-pub mod Ending
-pub mod Ascii
-pub mod Verdicts
-pub mod Making
+pub mod WordKinds
+pub mod Valued

@@ -5,7 +5,9 @@ use Rattle.std.proofs.Math.Seq.{take-suc}
 use Rattle.asm_lex.specs.declared.token.Token.{Token}
 use Rattle.asm_lex.specs.Cut.{IsIn, AreIn}
 use Rattle.asm_body.specs.declared.lexeme.Lexeme.{Lexeme}
-use Rattle.asm_body.specs.Seen.{seen, all_seen, token_text, token_texts}
+use Rattle.asm_lex.proofs.Small.{IsSmall, AreSmall}
+use Rattle.asm_tree.specs.Spelling.{token_text, token_texts}
+use Rattle.asm_body.specs.Seen.{seen, all_seen}
 
 pub in_at : (text : List ℕ) (ts : List Token) (i : ℕ) (d : Token) → AreIn text ts → i < length ts → IsIn text (get_or ts i d)
 in_at text [] i d a lt = absurd (omega arith)
@@ -17,3 +19,8 @@ pub one_more : (text : List ℕ) (ts : List Token) (i : ℕ) (d : Token) (xs : L
 one_more text ts i d xs x lt e f =
     map-append seen xs (x ∷ []) ∙ ap (λ z. z ++ seen x ∷ []) e ∙ ap (λ z. token_texts text (take i ts) ++ z ∷ []) f
     ∙ sym (map-append (token_text text) (take i ts) (get_or ts i d ∷ [])) ∙ ap (token_texts text) (sym (rw add-one (take-suc ts i d lt)))
+
+pub small_at : (text : List ℕ) (ts : List Token) (i : ℕ) (d : Token) → AreSmall text ts → i < length ts → IsSmall text (get_or ts i d)
+small_at text [] i d a lt = absurd (omega arith)
+small_at text (t ∷ ts) zero d a lt = a.0
+small_at text (t ∷ ts) (suc i) d a lt = small_at text ts i d a.1 (omega arith)

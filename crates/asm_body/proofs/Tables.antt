@@ -1,8 +1,8 @@
 -- Looking a word up, row by row.
 use Rattle.std.proofs.Common.{◌≡◌, ℕ, ◌+◌, ◌<◌, true, false, List, refl, length, drop, get_or, drop-cons, add-one, map, Some, Bor}
 use Rattle.std.specs.Str.{bytes_eq}
-use Rattle.asm_body.specs.declared.class.Class.{Class}
-use Rattle.asm_body.specs.Words.{class_in}
+use Rattle.asm_tree.specs.declared.class.Class.{Class}
+use Rattle.asm_tree.specs.Words.{class_in}
 
 abbrev Row : Type 0
 Row = Bor (List ℕ) × Class

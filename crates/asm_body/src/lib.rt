@@ -1,18 +1,12 @@
-//! Reads the tokens of a model into its tree.
+//! Reads the tokens of terms and rules into their trees.
 #![tactic(auto)]
 
 mod class;
-mod error;
 mod lexeme;
-mod lexemes;
-mod parse;
+mod number;
 mod reading;
-mod rules;
-mod terms;
-#[cfg(test)]
-mod tests;
-pub mod tree;
-mod units;
+mod taking;
 
-pub use error::ParseError;
-pub use parse::{one_tree, unit};
+pub use lexeme::Lexeme;
+pub use reading::{any_word, begins, begins_among, enter, enter_among, expect, expect_among, name};
+pub use taking::lexemes;

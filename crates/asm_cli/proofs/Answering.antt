@@ -4,7 +4,7 @@ use Rattle.std.specs.Prelude.{MatchBool, codes}
 use Rattle.std.specs.FinMap.{get}
 use Rattle.std.proofs.lemmas.Bool.Decides.{nat_tests}
 use Rattle.asm_io.specs.Outside.{Files}
-use Rattle.asm_fire.specs.declared.stop.Stop.{Stop}
+use Rattle.boolean_fire.specs.declared.stop.Stop.{Stop}
 use Rattle.boolean_run.specs.declared.run.RunEnd.{RunEnd}
 use Rattle.boolean_run.specs.declared.run.RunEnd.TheVariants.{Done, Stopped}
 use Rattle.boolean_run.specs.Printed.{run_of}

@@ -2,16 +2,16 @@
 use Rattle.std.proofs.Common.{◌≡◌, ℕ, ◌≤◌, List, length, Option, Some, None, Result, Ok, Err, true, false, Bool as Truth, refl, sym, ap, ◌∙◌, subst, arith}
 use Rattle.std.specs.Prelude.{if◌then◌else◌, nat_le, ◌&&◌, ◌<◌, ◌^◌, option_map, IfOk}
 use Rattle.std.proofs.lemmas.List.{length-map}
-use Rattle.asm_fire.specs.declared.rule.Rule.{Rule}
+use Rattle.boolean_fire.specs.declared.rule.Rule.{Rule}
 use Rattle.boolean_run.specs.declared.machine.MachineError.{MachineError}
 use Rattle.std.proofs.lemmas.Bool.Decides.{nat_tests}
 use Rattle.asm_lex.specs.declared.token.Token.{Token}
 use Rattle.asm_lex.specs.Cut.{cut}
-use Rattle.asm_body.specs.declared.tree.RawUnit.{RawUnit}
-use Rattle.asm_body.specs.declared.error.ParseError.{ParseError}
-use Rattle.asm_body.specs.declared.error.ParseError.TheVariants as parse
-use Rattle.asm_body.specs.Unit.{IsUnit}
-use Rattle.asm_body.proofs.Verdicts.{one_unit}
+use Rattle.boolean_body.specs.declared.tree.RawUnit.{RawUnit}
+use Rattle.boolean_body.specs.declared.error.ParseError.{ParseError}
+use Rattle.boolean_body.specs.declared.error.ParseError.TheVariants as parse
+use Rattle.boolean_body.specs.Unit.{IsUnit}
+use Rattle.boolean_body.proofs.Verdicts.{one_unit}
 use Rattle.boolean_run.specs.declared.machine.Machine.{Machine}
 use Rattle.boolean_run.specs.Machine.{machine_of, machine_with, is_sound, rule_of, initial_of, most_functions}
 use Rattle.asm_cli.specs.Answer.{IsModel, IsNoModel, IsUnitOf, IsNoUnit}

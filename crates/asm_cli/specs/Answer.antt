@@ -5,9 +5,9 @@ use Rattle.asm_io.specs.Outside.{Files, Adds, AddsPart}
 use Rattle.asm_io.specs.declared.sources.Source.{Source}
 use Rattle.asm_lex.specs.declared.token.Token.{Token}
 use Rattle.asm_lex.specs.Cut.{cut}
-use Rattle.asm_body.specs.declared.tree.RawUnit.{RawUnit}
-use Rattle.asm_body.specs.Unit.{IsUnit}
-use Rattle.asm_fire.specs.declared.stop.Stop.{Stop}
+use Rattle.boolean_body.specs.declared.tree.RawUnit.{RawUnit}
+use Rattle.boolean_body.specs.Unit.{IsUnit}
+use Rattle.boolean_fire.specs.declared.stop.Stop.{Stop}
 use Rattle.boolean_run.specs.declared.machine.Machine.{Machine}
 use Rattle.boolean_run.specs.declared.run.RunEnd.{RunEnd}
 use Rattle.boolean_run.specs.declared.run.RunEnd.TheVariants.{Done, Stopped}

@@ -2,9 +2,9 @@
 ghost use Rattle.std.specs.Prelude.{◌≡◌, ◌≤◌, length, IfOk, IsErrOf};
 ghost use Rattle.asm_cli.specs.Answer.{IsModel, IsNoModel, IsUnitOf, IsNoUnit, most_bytes};
 
-use asm_body::tree::RawUnit;
-use asm_body::{ParseError, unit};
 use asm_lex::{LexError, lex};
+use boolean_body::tree::RawUnit;
+use boolean_body::{ParseError, unit};
 use boolean_run::{Machine, MachineError, machine_of};
 use std::alloc::Global;
 

@@ -3,3 +3,4 @@ pub mod Numbers
 pub mod Pieces
 pub mod Steps
 pub mod Sound
+pub mod Small

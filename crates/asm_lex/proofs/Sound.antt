@@ -9,7 +9,7 @@ use Rattle.asm_lex.specs.declared.error.LexError.{LexError}
 use Rattle.asm_lex.specs.Cut.{piece, first_piece, Cut, onto, taken, cut_from, cut, IsIn, AreIn}
 use Rattle.asm_lex.proofs.Steps.{has_length, is_piece}
 
-next_place : (text : List ℕ) (at b : ℕ) (bs : List ℕ) → drop at text ≡ b ∷ bs → drop (suc at) text ≡ bs
+pub next_place : (text : List ℕ) (at b : ℕ) (bs : List ℕ) → drop at text ≡ b ∷ bs → drop (suc at) text ≡ bs
 next_place text at b bs e = ap (λ (n : ℕ). drop n text) (let i : suc at ≡ at + 1 = omega arith in i) ∙ sym (drop-drop 1 at text) ∙ ap (drop 1) e
 
 is_in : (text : List ℕ) (at n : ℕ) (kind : Kind) (b : ℕ) (bs : List ℕ) → drop at text ≡ b ∷ bs → first_piece at (b ∷ bs) ≡ Ok (n, piece_of.Token kind) → IsIn text (record { kind = kind; from = at; to = at + n })
@@ -23,7 +23,7 @@ is_in text at n kind b bs d e =
 
 -- what is said of the tokens of a cut
 module _ (P : List Token → Type 0) (none : P []) where
-  onto_ok : (t : Token) (c : Cut) (ts : List Token) → ((us : List Token) → c ≡ Ok us → P (t ∷ us)) → onto t c ≡ Ok ts → P ts
+  pub onto_ok : (t : Token) (c : Cut) (ts : List Token) → ((us : List Token) → c ≡ Ok us → P (t ∷ us)) → onto t c ≡ Ok ts → P ts
   onto_ok t (Ok us) ts f e = let g : t ∷ us ≡ ts = cc (e) in subst P g (f us refl)
   onto_ok t (Err i) ts f e = absurd (cc (e))
 

@@ -1,5 +1,5 @@
 -- The grammars of units, input files and scenarios pass the checks of the theory.
-use Rattle.std.proofs.Common.{◌≡◌, ℕ, Bool, true, false, List, [], ◌∷◌, refl}
+use Rattle.std.proofs.Common.{Bool, true, false, refl}
 use Rattle.asm_grammar.proofs.Levels.{Checked}
 use Rattle.asm_grammar.proofs.Whole.{CheckedWhole}
 use Rattle.asm_tree.specs.Words.{class_of, number}

@@ -1,5 +1,5 @@
 -- The grammar of rules, production by production, and what stands behind each token that opens a level.
-use Rattle.std.specs.Prelude.{ℕ, Bool, true, false, List, [], ◌∷◌, Option, Some, None, ℤ, pos, neg_ℤ}
+use Rattle.std.specs.Prelude.{Bool, true, false, List, [], ◌∷◌, Option, Some, None, pos, neg_ℤ}
 use Rattle.std.specs.Option.{unwrap_or}
 use Rattle.std.specs.Str.Parse.{digits_value}
 use Rattle.asm_grammar.specs.Grammar.{Grammar, Bodies, word, nothing, both, either, many, shown, opening}
@@ -16,8 +16,8 @@ use Rattle.asm_tree.specs.declared.rule.RawRuleKind.TheVariants as rule_kind
 use Rattle.asm_tree.specs.declared.unit.RawInt.{RawInt}
 use Rattle.asm_tree.specs.declared.script.RawConstant.{RawConstant}
 use Rattle.asm_tree.specs.declared.script.RawConstant.TheVariants as constant_of
-use Rattle.asm_tree.specs.Language.{TokenText, Phrase, models, token, after, before, name, name_of, functions, rules, elements, domains, Inside, Equivalent, Implied, Disjoined, Joined, Compared, Added, Multiplied, Negated, Opposite, NamedOne, NamedTwo, NamedMinus, OneOperand, TwoOperands, MinusOperands, Grouped, Arguments, Actuals, ForallTerm, ExistTerm, ConditionalTerm, SwitchTerm, LetTerm, Binds, Parameters, Product, Constants, Parallel, Sequence, Conditional, Switch, Let, Forall, Choose}
-use Rattle.asm_tree.specs.Terms.{opposite, product, product_tail, sum, sum_tail, comparison, negation, conjunction, conjunction_tail, disjunction, disjunction_tail, implication, implication_tail, equivalence_tail, term, terms, binders, guard, guard_or, bind, more_binds, other_term, otherwise_term, case_term, more_case_terms, second_operand, unique, group, arguments}
+use Rattle.asm_tree.specs.Language.{TokenText, models, token, after, before, name, functions, rules, elements, domains, Equivalent, Implied, Disjoined, Joined, Compared, Added, Multiplied, Negated, Opposite, NamedOne, NamedTwo, NamedMinus, OneOperand, TwoOperands, MinusOperands, Grouped, Arguments, Actuals, ForallTerm, ExistTerm, ConditionalTerm, SwitchTerm, LetTerm, Binds, Parameters, Product, Constants, Parallel, Sequence, Conditional, Switch, Let, Forall, Choose}
+use Rattle.asm_tree.specs.Terms.{opposite, product, product_tail, sum, sum_tail, negation, conjunction, conjunction_tail, disjunction_tail, implication, equivalence_tail, term, terms, binders, guard, guard_or, bind, more_binds, other_term, otherwise_term, case_term, more_case_terms, second_operand, unique, group, arguments}
 
 -- ---- what is built
 
@@ -58,10 +58,10 @@ call_rule p = rule_at p.0 (rule_kind.Call p.0.text p.1)
 
 -- a whole number as it is written
 abbrev pub plain_int : TokenText → RawInt
-plain_int t = record { at = t.at; value = pos (digits_value 10 t.text) }
+plain_int t = record { at = t.at; first = t.text; value = pos (digits_value 10 t.text) }
 
 abbrev pub negative_int : TokenText × TokenText → RawInt
-negative_int p = record { at = p.0.at; value = neg_ℤ (pos (digits_value 10 p.1.text)) }
+negative_int p = record { at = p.0.at; first = p.0.text; value = neg_ℤ (pos (digits_value 10 p.1.text)) }
 
 -- int = [ "-" ] Number
 unfoldable pub int : Grammar models RawInt

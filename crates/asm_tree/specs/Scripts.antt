@@ -1,6 +1,6 @@
 -- The grammar of input files and of scenarios, in which the words of scenarios are reserved.
-use Rattle.std.specs.Prelude.{ℕ, true, List, [], ◌∷◌, Option, Some, None}
-use Rattle.asm_grammar.specs.Grammar.{Grammar, word, nothing, both, either, many, shown, opening}
+use Rattle.std.specs.Prelude.{true, List, [], ◌∷◌}
+use Rattle.asm_grammar.specs.Grammar.{Grammar, nothing, both, either, many, shown, opening}
 use Rattle.asm_tree.specs.Words.{kind_of}
 use Rattle.asm_tree.specs.declared.class.Class.TheVariants as class
 use Rattle.asm_tree.specs.declared.term.RawName.{RawName}
@@ -14,7 +14,7 @@ use Rattle.asm_tree.specs.declared.script.RawCommand.TheVariants as command_of
 use Rattle.asm_tree.specs.declared.script.RawScenarioCommand.{RawScenarioCommand}
 use Rattle.asm_tree.specs.declared.script.RawScenarioCommand.TheVariants as scenario_command
 use Rattle.asm_tree.specs.declared.script.RawScenario.{RawScenario}
-use Rattle.asm_tree.specs.Language.{TokenText, models, token, after, before, name, functions, words, plain_words, Constants}
+use Rattle.asm_tree.specs.Language.{models, token, after, before, name, functions, words, plain_words, Constants}
 use Rattle.asm_tree.specs.Terms.{term}
 use Rattle.asm_tree.specs.Rules.{rule, constant}
 use Rattle.asm_tree.specs.Units.{path}

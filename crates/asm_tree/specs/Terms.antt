@@ -17,7 +17,7 @@ use Rattle.asm_tree.specs.declared.term.RawCase.{RawCase}
 use Rattle.asm_tree.specs.declared.term.RawTerm.{RawTerm}
 use Rattle.asm_tree.specs.declared.term.RawTermKind.{RawTermKind}
 use Rattle.asm_tree.specs.declared.term.RawTermKind.TheVariants as term_kind
-use Rattle.asm_tree.specs.Language.{TokenText, Phrase, Chain, Grouping, Quantified, Plain, models, token, after, before, name, functions, elements, domains, variables, Equivalent, Implied, Disjoined, Joined, Compared, Added, Multiplied, Negated, Opposite, NamedOne, NamedTwo, NamedMinus, OneOperand, TwoOperands, MinusOperands, Grouped, Arguments, ForallTerm, ExistTerm, ConditionalTerm, SwitchTerm, LetTerm, Binds}
+use Rattle.asm_tree.specs.Language.{TokenText, Phrase, Grouping, Quantified, Plain, models, token, after, name, functions, elements, domains, variables, Equivalent, Implied, Disjoined, Joined, Compared, Added, Multiplied, Negated, Opposite, NamedOne, NamedTwo, NamedMinus, Grouped, Arguments, ForallTerm, ExistTerm, ConditionalTerm, SwitchTerm, LetTerm}
 
 -- ---- what is built
 

@@ -1,8 +1,7 @@
 -- The grammar of whole files of models, production by production.
-use Rattle.std.specs.Prelude.{ℕ, Bool, false, List, [], ◌∷◌, Option, Some, None}
+use Rattle.std.specs.Prelude.{ℕ, false, List, [], ◌∷◌, Option, Some, None}
 use Rattle.asm_grammar.specs.Grammar.{Grammar, word, nothing, both, either, many, shown, opening}
 use Rattle.asm_tree.specs.Words.{kind_of}
-use Rattle.asm_tree.specs.declared.class.Class.{Class}
 use Rattle.asm_tree.specs.declared.class.Class.TheVariants as class
 use Rattle.asm_tree.specs.declared.term.RawName.{RawName}
 use Rattle.asm_tree.specs.declared.term.RawBinder.{RawBinder}
@@ -17,7 +16,6 @@ use Rattle.asm_tree.specs.declared.unit.RawDeclaration.{RawDeclaration}
 use Rattle.asm_tree.specs.declared.unit.RawDeclaration.TheVariants as declaration_of
 use Rattle.asm_tree.specs.declared.unit.RawInt.{RawInt}
 use Rattle.asm_tree.specs.declared.unit.RawFunction.{RawFunction}
-use Rattle.asm_tree.specs.declared.unit.RawInvariant.{RawInvariant}
 use Rattle.asm_tree.specs.declared.unit.RawDefinition.{RawDefinition}
 use Rattle.asm_tree.specs.declared.unit.RawDefinition.TheVariants as definition_of
 use Rattle.asm_tree.specs.declared.unit.RawMain.{RawMain}

@@ -1,5 +1,5 @@
 -- The class of a token's text.
-use Rattle.std.specs.Prelude.{ℕ, suc, List, [], ◌∷◌, Bool, false, ◌&&◌, ◌||◌, ◌==◌, if◌then◌else◌, Option, Some, None, codes, map}
+use Rattle.std.specs.Prelude.{ℕ, suc, List, [], ◌∷◌, Bool, false, ◌||◌, ◌==◌, if◌then◌else◌, Option, Some, None, codes, map}
 use Rattle.std.specs.Str.{bytes_eq}
 use Rattle.std.specs.List.{starts_with, list_all}
 use Rattle.std.specs.Prelude.{nat_eq}

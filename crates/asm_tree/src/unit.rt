@@ -45,10 +45,11 @@ pub enum RawDeclaration {
     Function(RawFunctionKind, RawName, Listed<RawName>, RawName),
 }
 
-/// A whole number as it is written, between -2,147,483,648 and 2,147,483,648.
+/// A whole number as it is written, between -2,147,483,648 and 2,147,483,648, at its first token, with that token's text.
 #[derive(Debug, Drop)]
 pub struct RawInt {
     pub at: u32,
+    pub first: Name,
     pub value: i64,
 }
 

@@ -2,19 +2,19 @@
 use Rattle.std.specs.Prelude.{ℕ, Bool as Truth, true, not, ◌&&◌, if◌then◌else◌, List, [], ◌∷◌, Option, Some, None, nat_eq, nat_le, length, map, position, find, option_map}
 use Rattle.std.specs.List.{list_any, list_all}
 use lib.Pointwise.{pointwise}
-use Rattle.asm_body.specs.declared.tree.RawTerm.{RawTerm}
-use Rattle.asm_body.specs.declared.tree.RawTermKind.{RawTermKind}
-use Rattle.asm_body.specs.declared.tree.RawTermKind.TheVariants as raw_term
-use Rattle.asm_body.specs.declared.tree.RawRule.{RawRule, RawRule-F, fold-RawRule}
-use Rattle.asm_body.specs.declared.tree.RawRuleKind.TheOpen.{RawRuleKind-F}
-use Rattle.asm_body.specs.declared.tree.RawInitial.{RawInitial}
-use Rattle.asm_body.specs.declared.tree.RawUnit.{RawUnit}
-use Rattle.asm_fire.specs.declared.value.Value.{Value}
-use Rattle.asm_fire.specs.declared.value.Value.TheVariants as value
-use Rattle.asm_fire.specs.declared.rule.Term.{Term}
-use Rattle.asm_fire.specs.declared.rule.Term.TheVariants as term
-use Rattle.asm_fire.specs.declared.rule.Rule.{Rule}
-use Rattle.asm_fire.specs.declared.rule.Rule.TheVariants as rule
+use Rattle.boolean_body.specs.declared.tree.RawTerm.{RawTerm}
+use Rattle.boolean_body.specs.declared.tree.RawTermKind.{RawTermKind}
+use Rattle.boolean_body.specs.declared.tree.RawTermKind.TheVariants as raw_term
+use Rattle.boolean_body.specs.declared.tree.RawRule.{RawRule, RawRule-F, fold-RawRule}
+use Rattle.boolean_body.specs.declared.tree.RawRuleKind.TheOpen.{RawRuleKind-F}
+use Rattle.boolean_body.specs.declared.tree.RawInitial.{RawInitial}
+use Rattle.boolean_body.specs.declared.tree.RawUnit.{RawUnit}
+use Rattle.boolean_fire.specs.declared.value.Value.{Value}
+use Rattle.boolean_fire.specs.declared.value.Value.TheVariants as value
+use Rattle.boolean_fire.specs.declared.rule.Term.{Term}
+use Rattle.boolean_fire.specs.declared.rule.Term.TheVariants as term
+use Rattle.boolean_fire.specs.declared.rule.Rule.{Rule}
+use Rattle.boolean_fire.specs.declared.rule.Rule.TheVariants as rule
 use Rattle.boolean_run.specs.declared.machine.Machine.{Machine}
 
 abbrev pub Name : Type 0

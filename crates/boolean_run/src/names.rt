@@ -4,8 +4,8 @@ ghost use Rattle.std.specs.Option.{option_copied};
 ghost use Rattle.std.specs.List.{list_all};
 ghost use Rattle.boolean_run.specs.Machine as spec;
 
-use asm_body::tree::RawInitial;
 use asm_list::Name;
+use boolean_body::tree::RawInitial;
 
 /// The place of the first function of this name.
 pub fn place_of(names: &[Name], name: &Name) -> Option<usize>

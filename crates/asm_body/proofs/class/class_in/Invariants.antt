@@ -1,5 +1,5 @@
 use Rattle.std.proofs.Common.{◌≡◌, drop, map}
-use Rattle.asm_body.specs.Words.{class_in}
+use Rattle.asm_tree.specs.Words.{class_in}
 use Rattle.asm_body.proofs.class.class_in.Given as goal
 
 abbrev pub invariant-rows : goal.invariant-rows

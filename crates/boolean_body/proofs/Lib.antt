@@ -1,0 +1,9 @@
+pub mod Tables
+pub mod TokenKinds
+pub mod Checks
+pub mod Opening
+pub mod Starts
+pub mod Ending
+pub mod Ascii
+pub mod Verdicts
+pub mod Making

@@ -1,5 +1,5 @@
 -- What the bytes of a file are: its tokens, and its tree.
-use Rattle.std.specs.Prelude.{◌≡◌, ◌≢◌, ℕ, ◌-◌, Bool, false, ◌==◌, List, length, if◌then◌else◌, Result, Ok, Err, slice_get}
+use Rattle.std.specs.Prelude.{◌≡◌, ◌≢◌, ◌≤◌, ℕ, ◌-◌, Bool, false, ◌==◌, List, length, if◌then◌else◌, Result, Ok, Err, slice_get}
 use Rattle.std.specs.Option.{option_map_or}
 use Rattle.asm_io.specs.declared.sources.Place.{Place}
 use Rattle.asm_lex.specs.declared.token.Token.{Token}
@@ -44,9 +44,13 @@ tokens_of file text = cut_in file (cut text)
 abbrev pub is_unsupported : TokenText → Bool
 is_unsupported t = kind_of (class_of t.text) == kind_of class.Unsupported
 
+-- token k is such a word
+abbrev pub is_left_out : List TokenText → ℕ → Bool
+is_left_out ts k = option_map_or is_unsupported (slice_get ts k) false
+
 -- token k is refused
 abbrev pub refusal : List TokenText → ℕ → ParseError
-refusal ts k = if option_map_or is_unsupported (slice_get ts k) false then parse.Unsupported k else parse.Syntax k
+refusal ts k = if is_left_out ts k then parse.Unsupported k else parse.Syntax k
 
 -- where reading stopped, in these tokens
 abbrev pub error_of : List TokenText → Stop → ParseError
@@ -92,3 +96,9 @@ tree_from file text (Err e) = Err e
 -- the tree of the text of the file of this number
 unfoldable pub tree_of : ℕ → List ℕ → Result RawUnit LoadError
 tree_of file text = tree_from file text (tokens_of file text)
+
+-- no more tokens are left than there are
+abbrev pub Counts : ℕ → Stop → Type 0
+Counts n stop.Memory = Unit {0}
+Counts n (stop.Syntax left) = left ≤ n
+Counts n (stop.TooDeep left) = left ≤ n

@@ -13,7 +13,7 @@ use Rattle.boolean_run.specs.declared.run.RunEnd.{RunEnd}
 use Rattle.boolean_run.specs.declared.run.RunEnd.TheVariants.{Done, Stopped}
 use Rattle.boolean_run.specs.Machine.{machine_of}
 use Rattle.boolean_run.specs.Printed.{run_of}
-use Rattle.asm_cli.specs.Path.{normalised}
+use Rattle.asm_unit.specs.Path.{normalised}
 use Rattle.asm_cli.specs.Words.{Asked, asked_of}
 
 -- ---- models

@@ -37,9 +37,13 @@ abbrev pub joined : List (List ℕ) → List ℕ
 joined [] = []
 joined (first ∷ more) = first ++ flat_map (λ part. slash ∷ part) more
 
+-- the parts between `/`
+abbrev pub name_parts : List ℕ → List (List ℕ)
+name_parts name = slice_split (λ b. b == slash) name
+
 -- the normal form of a name: its parts between `/`, of which some are dropped
 abbrev pub normalised : List ℕ → List ℕ
-normalised name = joined (kept_parts (slice_split (λ b. b == slash) name))
+normalised name = joined (kept_parts (name_parts name))
 
 -- what references to texts point to
 abbrev pub texts : List (Bor (List ℕ)) → List (List ℕ)

@@ -1,8 +1,8 @@
 use Rattle.std.proofs.Common.{◌≡◌, ◌++◌, ◌∷◌, drop}
 use Rattle.std.specs.List.{flat_map}
 use Rattle.std.specs.String.{string_bytes}
-use Rattle.asm_cli.specs.Path.{joined, slash, texts}
-use Rattle.asm_cli.proofs.path.joined.Given as goal
+use Rattle.asm_unit.specs.Path.{joined, slash, texts}
+use Rattle.asm_unit.proofs.path.joined.Given as goal
 
 -- the text so far and the parts that are left
 abbrev pub invariant-parts : goal.invariant-parts

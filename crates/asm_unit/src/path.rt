@@ -1,9 +1,8 @@
 //! Names of files.
 ghost use Rattle.std.specs.Prelude.{◌≡◌, ◌==◌, ◌++◌, ◌∷◌, [], map, IfOk, OnOk};
-ghost use Rattle.std.specs.List.{slice_split};
 ghost use Rattle.std.specs.String.{string_bytes};
-ghost use Rattle.asm_cli.specs.Path as path;
-ghost use Rattle.asm_cli.specs.Path.{texts};
+ghost use Rattle.asm_unit.specs.Path as path;
+ghost use Rattle.asm_unit.specs.Path.{texts};
 
 use asm_list::Name;
 use std::alloc::{AllocError, Global};
@@ -14,18 +13,19 @@ pub fn normalised(alloc: Global, name: &str) -> Result<Name, AllocError>
 {
     let parts = parts_of(alloc, name)?;
     let kept = kept_parts(alloc, &parts)?;
-    joined(alloc, &kept)
+    let text = joined(alloc, &kept)?;
+    Name::of(alloc, &text)
 }
 
 /// The parts between `/`.
-fn parts_of(alloc: Global, name: &str) -> Result<Vec<&str>, AllocError>
-    ensures { IfOk result (λ v. texts v.items ≡ slice_split (λ b. b == 47) name.now) }
+pub fn parts_of(alloc: Global, name: &str) -> Result<Vec<&str>, AllocError>
+    ensures { IfOk result (λ v. texts v.items ≡ path.name_parts name.now) }
 {
     name.split('/').collect(alloc)
 }
 
 /// The parts that stay.
-fn kept_parts<'a>(alloc: Global, parts: &[&'a str]) -> Result<Vec<&'a str>, AllocError>
+pub fn kept_parts<'a>(alloc: Global, parts: &[&'a str]) -> Result<Vec<&'a str>, AllocError>
     ensures { IfOk result (λ v. texts v.items ≡ path.kept_parts (texts parts.now)) }
 {
     let mut stack = Vec::new(alloc);
@@ -43,7 +43,7 @@ fn kept_parts<'a>(alloc: Global, parts: &[&'a str]) -> Result<Vec<&'a str>, Allo
     Ok(stack)
 }
 
-fn push<'a>(stack: &mut Vec<&'a str>, part: &'a str) -> Result<(), AllocError>
+pub fn push<'a>(stack: &mut Vec<&'a str>, part: &'a str) -> Result<(), AllocError>
     ensures { OnOk result (texts stack.new.items ≡ texts stack.old.items ++ part.now ∷ []) }
 {
     stack.push(part)?;
@@ -75,17 +75,17 @@ fn ends_below(stack: &[&str]) -> bool
 }
 
 /// The parts with `/` between each two.
-fn joined(alloc: Global, parts: &[&str]) -> Result<Name, AllocError>
-    ensures { IfOk result (λ n. n ≡ path.joined (texts parts.now)) }
+pub fn joined(alloc: Global, parts: &[&str]) -> Result<String, AllocError>
+    ensures { IfOk result (λ text. string_bytes text ≡ path.joined (texts parts.now)) }
 {
     let mut text = String::new(alloc);
     let Some((first, more)) = parts.split_first() else {
-        return Name::of(alloc, "");
+        return Ok(text);
     };
     text.push_str(first)?;
     'parts: for part in more {
         text.push_str("/")?;
         text.push_str(part)?;
     }
-    Name::of(alloc, &text)
+    Ok(text)
 }

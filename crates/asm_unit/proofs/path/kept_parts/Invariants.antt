@@ -1,7 +1,7 @@
 use Rattle.std.proofs.Common.{◌≡◌, drop}
 use Rattle.std.specs.Prelude.{fold}
-use Rattle.asm_cli.specs.Path.{keep, kept_parts, texts}
-use Rattle.asm_cli.proofs.path.kept_parts.Given as goal
+use Rattle.asm_unit.specs.Path.{keep, kept_parts, texts}
+use Rattle.asm_unit.proofs.path.kept_parts.Given as goal
 
 -- the parts that are left give the whole
 abbrev pub invariant-parts : goal.invariant-parts

@@ -1,4 +1,4 @@
-//! Reads the tokens of terms and rules into their trees.
+//! The tokens of a text with their classes and values, and the readers of single tokens.
 #![tactic(auto)]
 
 mod binding;

@@ -4,11 +4,11 @@ use Rattle.std.specs.Prelude.{MatchBool, codes}
 use Rattle.std.specs.FinMap.{get}
 use Rattle.std.proofs.lemmas.Bool.Decides.{nat_tests}
 use Rattle.asm_io.specs.Outside.{Files}
-use Rattle.asm_fire.specs.declared.stop.Stop.{Stop}
+use Rattle.boolean_fire.specs.declared.stop.Stop.{Stop}
 use Rattle.boolean_run.specs.declared.run.RunEnd.{RunEnd}
 use Rattle.boolean_run.specs.declared.run.RunEnd.TheVariants.{Done, Stopped}
 use Rattle.boolean_run.specs.Printed.{run_of}
-use Rattle.asm_cli.specs.Path.{normalised}
+use Rattle.asm_unit.specs.Path.{normalised}
 use Rattle.asm_cli.specs.Words.{Asked, asked_of}
 use Rattle.asm_cli.specs.Answer.{IsModel, Says, says_asked, says_file, says_held, answer, sources_of, end_code, OneAnswer, most_bytes, Reaches, HasFileFault, EndsIn, IsDone, IsStopped}
 use Rattle.asm_cli.proofs.Models.{same_model}

@@ -2,7 +2,7 @@
 use Rattle.std.proofs.Common.{◌≡◌, ℕ, ◌≤◌, List, length, Option, Some, None, Result, Ok, Err, true, false, Bool as Truth, refl, sym, ap, ◌∙◌, subst, arith}
 use Rattle.std.specs.Prelude.{if◌then◌else◌, nat_le, ◌&&◌, ◌<◌, ◌^◌, option_map, IfOk}
 use Rattle.std.proofs.lemmas.List.{length-map}
-use Rattle.asm_fire.specs.declared.rule.Rule.{Rule}
+use Rattle.boolean_fire.specs.declared.rule.Rule.{Rule}
 use Rattle.boolean_run.specs.declared.machine.MachineError.{MachineError}
 use Rattle.std.proofs.lemmas.Bool.Decides.{nat_tests}
 use Rattle.asm_lex.specs.declared.token.Token.{Token}

@@ -7,13 +7,13 @@ use Rattle.asm_lex.specs.declared.token.Token.{Token}
 use Rattle.asm_lex.specs.Cut.{cut}
 use Rattle.boolean_body.specs.declared.tree.RawUnit.{RawUnit}
 use Rattle.boolean_body.specs.Unit.{IsUnit}
-use Rattle.asm_fire.specs.declared.stop.Stop.{Stop}
+use Rattle.boolean_fire.specs.declared.stop.Stop.{Stop}
 use Rattle.boolean_run.specs.declared.machine.Machine.{Machine}
 use Rattle.boolean_run.specs.declared.run.RunEnd.{RunEnd}
 use Rattle.boolean_run.specs.declared.run.RunEnd.TheVariants.{Done, Stopped}
 use Rattle.boolean_run.specs.Machine.{machine_of}
 use Rattle.boolean_run.specs.Printed.{run_of}
-use Rattle.asm_cli.specs.Path.{normalised}
+use Rattle.asm_unit.specs.Path.{normalised}
 use Rattle.asm_cli.specs.Words.{Asked, asked_of}
 
 -- ---- models

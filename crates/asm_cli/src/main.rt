@@ -4,7 +4,6 @@
 mod command;
 mod exit;
 mod model;
-mod path;
 mod run;
 mod say;
 #[cfg(test)]

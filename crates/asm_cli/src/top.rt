@@ -7,11 +7,11 @@ ghost use Rattle.asm_cli.specs.Answer.{answer, OneAnswer, Prints, PrintsPart, Ha
 
 use crate::command::asked;
 use crate::exit::Exit;
-use crate::path::normalised;
 use crate::run::run_file;
 use crate::say::say;
 use asm_io::{Shelf, Sink};
 use asm_list::Name;
+use asm_unit::normalised;
 use std::alloc::Global;
 
 /// Does all that the program does, and answers how it ends. The words are those of the command line

@@ -1,2 +1,3 @@
-pub mod Tables
-pub mod Taking
+pub mod Firing
+pub mod Joining
+pub mod Keeping

@@ -1,3 +1,5 @@
-pub mod Meaning
-pub mod Step
-pub mod Table
+pub mod Answer
+pub mod Fault
+pub mod Guard
+pub mod Sound
+pub mod Work

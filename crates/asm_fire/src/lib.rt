@@ -1,14 +1,11 @@
-//! The meaning of the rules of Boolean models: values, update sets, what a rule gives, and a step.
+//! The update sets of rules.
 #![tactic(auto)]
 
-mod fire;
-mod next;
-mod rule;
-mod stop;
-mod table;
-mod value;
+mod candidates;
+mod error;
+mod join;
+mod taking;
+mod update;
 
-pub use next::{StepError, step};
-pub use rule::{Rule, Term};
-pub use stop::Stop;
-pub use value::Value;
+pub use error::FireError;
+pub use taking::fire;

@@ -10,7 +10,7 @@ use Rattle.asm_node.specs.declared.term.Binder.{Binder}
 use Rattle.asm_node.specs.Tree.{Tree, Const, Var, Within, Get, Oper, Cond, Let, Quant, Trees, none, more}
 use Rattle.asm_node.specs.Values.{are_arguments}
 use Rattle.asm_node.specs.Machine.{Machine, State, Input, Definition, definition_of, slot_at, tuples_of}
-use Rattle.asm_node.specs.Term.{Outcome, Gives, Needs, and_then, World, Reads, Calls, unbound, with_value, with_tuple, parameters_have, input_value, state_value, given, read, branch, guard_values, value_of, values_of, defined_value, value_of_function, calls_within, calls_of, Places, reads_at, val}
+use Rattle.asm_node.specs.Term.{Outcome, Gives, Needs, and_then, World, Reads, Calls, unbound, with_value, with_tuple, parameters_have, input_value, state_value, given, read, branch, guard_values, value_of, values_of, defined_value, value_of_function, calls_within, calls_of, Places, reads_at, val, vals}
 
 -- an answer is the other one's too
 abbrev pub Keeps : {A : Type 0} → Outcome A → Outcome A → Type 0
@@ -25,7 +25,7 @@ itself : {A : Type 0} (o : Outcome A) → Keeps o o
 itself (Gives a) = refl
 itself (Needs l) = tt
 
-abbrev WithInput : Machine → State → Input → World
+abbrev pub WithInput : Machine → State → Input → World
 WithInput m s i = record { machine = m; state = s; input = i }
 
 -- the input gives all that the other gives
@@ -127,4 +127,10 @@ module _ (m : Machine) (s : State) (i j : Input) (more_given : GivesMore i j) wh
   pub val-kept : (e : Places) (t : Tree) → Keeps (val w e t) (val w' e t)
   val-kept e t =
       keeps_value (calls_of w) (calls_of w') (keeps_calls 32) t (reads_at w e) (reads_at w' e)
+      (λ x. keeps_value (calls_of w) (calls_of w') (keeps_calls 32) (e x) unbound unbound (λ y. refl))
+
+  -- and so have terms
+  pub vals-kept : (e : Places) (ts : Trees) → Keeps (vals w e ts) (vals w' e ts)
+  vals-kept e ts =
+      keeps_values (calls_of w) (calls_of w') (keeps_calls 32) ts (reads_at w e) (reads_at w' e)
       (λ x. keeps_value (calls_of w) (calls_of w') (keeps_calls 32) (e x) unbound unbound (λ y. refl))

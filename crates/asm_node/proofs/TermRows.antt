@@ -21,7 +21,9 @@ use Rattle.asm_node.specs.Machine.{Machine, Definition, State, Input, no_input}
 use Rattle.asm_node.specs.Term.{World, Gives, Needs, val, nowhere}
 use Rattle.asm_node.specs.Taking.{Yields, Faults, by_words, by_paths, outcome}
 use Rattle.asm_node.specs.Step.{world_at, initial, broken}
+use Rattle.std.specs.Cmp.{nat_cmp_total}
 use Rattle.asm_node.proofs.UpdateSets.{of_list}
+use Rattle.asm_node.proofs.Revising.{get-shared}
 
 abbrev here : Place
 here = record { file = 0; at = 70 }
@@ -68,18 +70,27 @@ machine initial_terms main = record {
   main = main;
 }
 
+abbrev values : Value → List (ℕ × Value)
+values v = (0, v) ∷ (3, Undef) ∷ (4, Undef) ∷ []
+
 abbrev state : Value → State
-state v = v ∷ Undef ∷ Undef ∷ Undef ∷ Undef ∷ []
+state v = finite.from_entries (values v)
+
+abbrev world_with : Value → World
+world_with v = record { machine = machine [] (Skip here); state = state v; input = no_input }
 
 abbrev world : World
-world = world_at (machine [] (Skip here)) (state (Int (pos 2))) no_input
+world = world_with (Int (pos 2))
+
+x_is : (v : Value) → finite.get (state v) 0 ≡ Some v
+x_is v = finite.get-from_entries nat_cmp_total (values v) 0
 
 -- `undef` is the same as itself alone, and no operator but the four tests tells it
 pub undef_is_undef : val world nowhere (both Equal (Const Undef) (Const Undef)) ≡ Gives (Bool true)
 undef_is_undef = refl
 
 pub undef_is_no_element : val world nowhere (both Equal (Const Undef) x) ≡ Gives (Bool false)
-undef_is_no_element = refl
+undef_is_no_element = rw (x_is (Int (pos 2))) refl
 
 pub and_is_strict : val world nowhere (both And (Const (Bool false)) (Const Undef)) ≡ Gives Undef
 and_is_strict = refl
@@ -98,14 +109,14 @@ pub rest : val world nowhere (both Mod (Const (Int (neg_ℤ (pos 7)))) (number 2
 rest = refl
 
 pub no_quotient : val world nowhere (both Idiv x (number 0)) ≡ Gives Undef
-no_quotient = refl
+no_quotient = rw (x_is (Int (pos 2))) refl
 
 -- a definition's value outside the codomain, and a value at an argument outside its domain, is `undef`
-pub doubled : val (world_at (machine [] (Skip here)) (state (Int (pos 1))) no_input) nowhere (double x) ≡ Gives (Int (pos 2))
-doubled = refl
+pub doubled : val (world_with (Int (pos 1))) nowhere (double x) ≡ Gives (Int (pos 2))
+doubled = rw (x_is (Int (pos 1))) refl
 
 pub outside_the_codomain : val world nowhere (double x) ≡ Gives Undef
-outside_the_codomain = refl
+outside_the_codomain = rw (x_is (Int (pos 2))) refl
 
 pub outside_the_domain : val world nowhere (double (number 0)) ≡ Gives Undef
 outside_the_domain = refl
@@ -116,7 +127,7 @@ constant = refl
 
 -- `Within` is `undef` outside the domain; 4,294,967,295 is the domain of all numbers from -2^31 to 2^31
 pub within : val world nowhere (Within 0 (both Plus x x)) ≡ Gives Undef
-within = refl
+within = rw (x_is (Int (pos 2))) refl
 
 pub within_whole : val world nowhere (Within 4294967295 (number 2147483648)) ≡ Gives (Int (pos 2147483648))
 within_whole = refl
@@ -126,17 +137,17 @@ beyond_whole = refl
 
 -- a `let` hides an outer variable of the same number in its body alone
 pub let_in_let : val world nowhere (Let 0 x (both Plus (Let 0 (number 3) (Var 0)) (Var 0))) ≡ Gives (Int (pos 5))
-let_in_let = refl
+let_in_let = rw (x_is (Int (pos 2))) refl
 
 abbrev binder : ℕ → Binder
 binder k = record { variable = k; domain = 0 }
 
 -- quantifiers over one variable and over two
 pub exist : val world nowhere (Quant Exist (binder 0 ∷ []) (both Less (Var 0) x)) ≡ Gives (Bool true)
-exist = refl
+exist = rw (x_is (Int (pos 2))) refl
 
 pub exist_unique : val world nowhere (Quant ExistUnique (binder 0 ∷ []) (both Less (Var 0) x)) ≡ Gives (Bool true)
-exist_unique = refl
+exist_unique = rw (x_is (Int (pos 2))) refl
 
 pub exist_two : val world nowhere (Quant ExistUnique (binder 0 ∷ []) (both Less (Var 0) (number 3))) ≡ Gives (Bool false)
 exist_two = refl
@@ -157,7 +168,7 @@ first_need = rw (finite.get-empty nat_cmp 2) refl
 
 -- a conditional reads its guard and the taken branch alone, and is `undef` where the guard is
 pub taken_branch : val world nowhere (Cond (both Equal x x) x m) ≡ Gives (Int (pos 2))
-taken_branch = refl
+taken_branch = rw (x_is (Int (pos 2))) refl
 
 pub undef_condition : val world nowhere (Cond (Const Undef) x x) ≡ Gives Undef
 undef_condition = refl
@@ -177,13 +188,13 @@ abbrev copy : Rule
 copy = Update here 4 none (Get 3 none)
 
 pub shared_given : (i : Input) → finite.get i 3 ≡ Some (Bool true) → outcome by_words (world_at (machine [] copy) (state Undef) i) copy [] ≡ Yields (of_list ((4, Bool true) ∷ [])) []
-shared_given i given = rw given refl
+shared_given i given = rw (get-shared (record { domains = domains; functions = functions }) (values Undef) i 3, given) refl
 
 -- the initial state, and the first bad initial value
 abbrev initially : ℕ → Tree → Definition
 initially f t = record { function = f; parameters = []; body = t }
 
-pub initial_state : initial (machine (initially 0 (number 3) ∷ []) (Skip here)) ≡ Ok (Int (pos 3) ∷ Undef ∷ Undef ∷ Undef ∷ Undef ∷ [])
+pub initial_state : initial (machine (initially 0 (number 3) ∷ []) (Skip here)) ≡ Ok (state (Int (pos 3)))
 initial_state = refl
 
 pub bad_initial : initial (machine (initially 0 (number 7) ∷ []) (Skip here)) ≡ Err (stop.BadInitial 0 (Int (pos 7)))
@@ -191,13 +202,13 @@ bad_initial = refl
 
 -- the first invariant that isn't true, also where it is `undef`
 pub all_hold : broken (machine [] (Skip here)) (state (Int (pos 2))) ≡ None
-all_hold = refl
+all_hold = rw (x_is (Int (pos 2))) refl
 
 pub second_fails : broken (machine [] (Skip here)) (state (Int (pos 3))) ≡ Some 2
-second_fails = refl
+second_fails = rw (x_is (Int (pos 3))) refl
 
 pub second_is_undef : broken (machine [] (Skip here)) (state Undef) ≡ Some 2
-second_is_undef = refl
+second_is_undef = rw (x_is Undef) refl
 
 -- a choice by its path, which has to be a candidate's
 abbrev choose : Rule

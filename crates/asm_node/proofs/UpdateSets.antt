@@ -112,7 +112,7 @@ or_at_right : (a b : Truth) → b ≡ true → (a || b) ≡ true
 or_at_right true b is = refl
 or_at_right false b is = is
 
-same_is : (a b : Value) → same a b ≡ true → a ≡ b
+pub same_is : (a b : Value) → same a b ≡ true → a ≡ b
 same_is Undef Undef is = refl
 same_is (Bool true) (Bool true) is = refl
 same_is (Bool false) (Bool false) is = refl

@@ -1,6 +1,12 @@
+pub mod Choosing
 pub mod Env
+pub mod Exact
+pub mod Extending
+pub mod Filled
 pub mod Machine
+pub mod Model
 pub mod Pool
+pub mod Ranges
 pub mod RuleTree
 pub mod Step
 pub mod Taking
@@ -8,4 +14,5 @@ pub mod Term
 pub mod Tree
 pub mod UpdateSet
 pub mod Values
+pub mod Weight
 pub mod Words

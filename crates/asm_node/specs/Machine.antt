@@ -41,9 +41,13 @@ pub record Machine : Type 0 where
   pub invariants : List Tree
   pub main : Rule
 
--- a state has a value for each slot, in order; it is `undef` where no state keeps the location
+-- a state gives a value to each slot of a kept location
 abbrev pub State : Type 0
-State = List Value
+State = finite.FinMap nat_cmp Value
+
+-- the state with other values at the slots that it has
+abbrev pub revised : (ℕ → Value → Value) → State → State
+revised f s = finite.from_entries (map (λ entry. (entry.0, f entry.0 entry.1)) (finite.entries s))
 
 -- an input gives values to some slots
 abbrev pub Input : Type 0

@@ -1,6 +1,7 @@
 -- Initial states, steps, invariants and runs.
-use Rattle.std.specs.Prelude.{◌≡◌, ℕ, suc, Bool as Truth, not, ◌||◌, ◌&&◌, IsTrue, IsSome, if◌then◌else◌, List, [], ◌∷◌, map, length, Option, Some, None, Result, Ok, Err, slice_get, ⊤}
+use Rattle.std.specs.Prelude.{◌≡◌, ℕ, suc, Bool as Truth, not, ◌||◌, ◌&&◌, IsTrue, IsSome, is_some, if◌then◌else◌, List, [], ◌∷◌, Option, Some, None, Result, Ok, Err, slice_get, ⊤}
 use Rattle.std.specs.Option.{unwrap_or}
+use Rattle.std.specs.List.{find}
 use Rattle.std.specs.FinMap as finite
 use Rattle.asm_domain.specs.declared.value.Value.{Value}
 use Rattle.asm_domain.specs.declared.value.Value.TheVariants.{Undef}
@@ -12,7 +13,7 @@ use Rattle.asm_node.specs.declared.stop.Stop.TheVariants.{Clash, BadInitial}
 use Rattle.asm_node.specs.Tree.{Tree}
 use Rattle.asm_node.specs.RuleTree.{Rule}
 use Rattle.asm_node.specs.Values.{is_element, is_undef, is_true}
-use Rattle.asm_node.specs.Machine.{Machine, Definition, State, Input, no_input, definition_of, is_shared, is_monitored, has_kind}
+use Rattle.asm_node.specs.Machine.{Machine, Definition, State, Input, revised, no_input, definition_of, is_shared, is_monitored, has_kind}
 use Rattle.asm_node.specs.Term.{World, Outcome, Gives, Needs, value_of, calls_of, parameters_have, val, nowhere}
 use Rattle.asm_node.specs.UpdateSet.{UpdateSet, consistent, clash, fire}
 use Rattle.asm_node.specs.Taking.{Attempt, Yields, Faults, outcome, by_words, by_paths, Choosing}
@@ -22,11 +23,10 @@ abbrev pub may_have : Machine → Option Function → Value → Truth
 may_have m (Some f) v = is_undef v || is_element m.signature.domains f.codomain v
 may_have m None v = is_undef v
 
--- a state has a value for each slot, `undef` or in the codomain, and `undef` where no state keeps the location
+-- a state has a value for each kept slot and for no other, and each is `undef` or in the codomain
 pub record IsState (m : Machine) (s : State) : Type 0 where
-  pub length_is : length s ≡ length (locations m.signature)
-  pub may_have_it : (l : ℕ) (v : Value) → slice_get s l ≡ Some v → IsTrue (may_have m (function_at m.signature l) v)
-  pub keeps : (l : ℕ) (v : Value) → slice_get s l ≡ Some v → IsTrue (is_undef v || has_kind is_kept (function_at m.signature l))
+  pub has_kept : (l : ℕ) → is_some (finite.get s l) ≡ has_kind is_kept (function_at m.signature l)
+  pub may_have_it : (l : ℕ) (v : Value) → finite.get s l ≡ Some v → IsTrue (may_have m (function_at m.signature l) v)
 
 -- an input gives values of the codomains to monitored and shared locations alone
 pub record IsInput (m : Machine) (i : Input) : Type 0 where
@@ -38,19 +38,21 @@ pub record IsFull (m : Machine) (i : Input) : Type 0 where
   pub is_input : IsInput m i
   pub gives : (l : ℕ) → IsTrue (has_kind is_monitored (function_at m.signature l)) → IsSome (finite.get i l)
 
--- the values from slot l on, with the input's shared values in place of those of the state
-abbrev pub shared_from : Vocabulary → Input → ℕ → State → State
-shared_from signature i l [] = []
-shared_from signature i l (v ∷ vs) =
-    (if has_kind is_shared (function_at signature l) then unwrap_or (finite.get i l) v else v) ∷ shared_from signature i (suc l) vs
+-- what a slot has under an input: the input's value where the location is shared and the input gives one
+abbrev pub shared_value : Vocabulary → Input → ℕ → Value → Value
+shared_value signature i l v = if has_kind is_shared (function_at signature l) then unwrap_or (finite.get i l) v else v
+
+-- the state with the input's shared values in place of its own
+abbrev pub with_shared : Vocabulary → Input → State → State
+with_shared signature i s = revised (shared_value signature i) s
 
 -- the state with the input's shared values, and the input
 abbrev pub world_at : Machine → State → Input → World
-world_at m s i = record { machine = m; state = shared_from m.signature i 0 s; input = i }
+world_at m s i = record { machine = m; state = with_shared m.signature i s; input = i }
 
 -- a model by itself
 abbrev pub alone : Machine → World
-alone m = record { machine = m; state = []; input = no_input }
+alone m = record { machine = m; state = finite.empty; input = no_input }
 
 -- an initial term reads no location, so it has a value
 abbrev pub answer : Outcome Value → Value
@@ -62,22 +64,26 @@ abbrev pub initial_value : Machine → Option Definition → List Value → Valu
 initial_value m (Some d) vs = answer (value_of (alone m) (calls_of (alone m)) (parameters_have d.parameters vs) d.body)
 initial_value m None vs = Undef
 
--- the initial values of the locations in order
-abbrev pub initial_values : Machine → List (ℕ × List Value) → State
-initial_values m locations = map (λ location. initial_value m (definition_of m.initial_terms location.0) location.1) locations
+-- the initial values of the kept locations in order, each with its slot, from slot l on
+abbrev pub initial_from : Machine → ℕ → List (ℕ × List Value) → List (ℕ × Value)
+initial_from m l [] = []
+initial_from m l (location ∷ others) =
+    if has_kind is_kept (slice_get m.signature.functions location.0)
+    then (l, initial_value m (definition_of m.initial_terms location.0) location.1) ∷ initial_from m (suc l) others
+    else initial_from m (suc l) others
 
--- the first value from slot l on that is neither `undef` nor in the codomain
-abbrev pub first_bad : Machine → ℕ → List Value → Option (ℕ × Value)
-first_bad m l [] = None
-first_bad m l (v ∷ vs) = if may_have m (function_at m.signature l) v then first_bad m (suc l) vs else Some (l, v)
+-- the initial values of all kept locations
+abbrev pub initial_values : Machine → List (ℕ × Value)
+initial_values m = initial_from m 0 (locations m.signature)
 
 abbrev pub started : State → Option (ℕ × Value) → Result State Stop
 started s None = Ok s
 started s (Some bad) = Err (BadInitial bad.0 bad.1)
 
--- the initial state: each kept location has the value of its initial term, or the first bad one is the stop
+-- the initial state: each kept location has the value of its initial term; the first value that is neither `undef` nor
+-- in the codomain is the stop
 abbrev pub initial : Machine → Result State Stop
-initial m = started (initial_values m (locations m.signature)) (first_bad m 0 (initial_values m (locations m.signature)))
+initial m = started (finite.from_entries (initial_values m)) (find (λ e. not (may_have m (function_at m.signature e.0) e.1)) (initial_values m))
 
 -- the state after a set is fired, or the stop of its clash
 abbrev pub after : World → UpdateSet → List ℕ → Option (ℕ × Value × Value) → Result (State × List ℕ) Stop

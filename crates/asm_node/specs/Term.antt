@@ -56,7 +56,7 @@ parameters_have _ _ = unbound
 -- a kept location has the state's value
 abbrev pub state_value : World → Option ℕ → Outcome Value
 state_value w None = Gives Undef
-state_value w (Some l) = Gives (unwrap_or (slice_get w.state l) Undef)
+state_value w (Some l) = Gives (unwrap_or (finite.get w.state l) Undef)
 
 abbrev pub given : ℕ → Option Value → Outcome Value
 given l (Some v) = Gives v

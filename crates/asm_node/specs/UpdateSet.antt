@@ -14,7 +14,7 @@ use Rattle.asm_sign.specs.declared.function.Function.{Function}
 use Rattle.asm_sign.specs.Arguments.{elements_at}
 use Rattle.asm_sign.specs.Vocabulary.{Vocabulary, locations, function_at}
 use Rattle.asm_node.specs.Values.{same}
-use Rattle.asm_node.specs.Machine.{State}
+use Rattle.asm_node.specs.Machine.{State, revised}
 
 -- a pair as a list of numbers, by which sets are kept in order; no meaning depends on that order
 abbrev pub value_key : Value → List ℕ
@@ -90,14 +90,9 @@ override u v = set.union (set.retain u (λ p. not (touches v p.0))) v
 abbrev pub value_at : UpdateSet → ℕ → Option Value
 value_at u l = option_map (λ p. p.1) (find (λ p. nat_eq p.0 l) (set.items u))
 
--- the values from slot l on, with the set's values put in
-abbrev pub fired_from : UpdateSet → ℕ → State → State
-fired_from u l [] = []
-fired_from u l (v ∷ vs) = unwrap_or (value_at u l) v ∷ fired_from u (suc l) vs
-
--- the state with the set's values put in
+-- the state with the set's value at each slot of which the set has one
 abbrev pub fire : State → UpdateSet → State
-fire s u = fired_from u 0 s
+fire s u = revised (λ l v. unwrap_or (value_at u l) v) s
 
 -- the values that the function's locations may have, by rank: `undef` before all elements
 abbrev pub ranked_values : Vocabulary → Option Function → List Value

@@ -1,4 +1,4 @@
-ghost use Rattle.std.specs.Prelude.{◌≡◌, IfOk};
+ghost use Rattle.std.specs.Prelude.{◌≡◌, ◌+◌, IfOk};
 ghost use Rattle.asm_node.specs.Tree.{Const, Within, plain};
 ghost use Rattle.asm_node.specs.Term.{nowhere, put, close};
 
@@ -14,6 +14,18 @@ pub struct Env {
     entries: Entries,
 }
 
+/// What a variable stands for, as it is held.
+#[derive(Drop)]
+pub enum Binding {
+    /// Nothing: the variable is `undef`.
+    Free,
+    Value(Value),
+    /// A term, whose variables stand for nothing.
+    Node(Rc<Term>),
+    /// A domain, a term inside it, and what the term's variables stand for.
+    Actual(u32, Rc<Term>, Env),
+}
+
 /// The newest entry stands first.
 #[derive(Drop)]
 enum Entries {
@@ -25,11 +37,13 @@ enum Entries {
 }
 
 impl Env {
-    ghost use Rattle.asm_node.specs.Env.{places_in, places_of};
+    ghost use Rattle.asm_node.specs.Env.{places_in, places_of, Holds};
+    ghost use Rattle.asm_node.specs.Weight.{weight_in, weight_of, IsLighter};
 
     /// No variable stands for anything. It takes no memory.
     pub fn new(alloc: Global) -> Env
-        ensures { places_of result ≡ nowhere }
+        ensures places { places_of result ≡ nowhere }
+        ensures weight { weight_of result ≡ 0 }
     {
         Env {
             alloc,
@@ -39,7 +53,8 @@ impl Env {
 
     /// The variable stands for the value.
     pub fn value(&self, variable: u32, value: Value) -> Result<Env, AllocError>
-        ensures { IfOk result (λ env. places_of env ≡ put variable (Const value) (places_of self.now)) }
+        ensures places { IfOk result (λ env. places_of env ≡ put variable (Const value) (places_of self.now)) }
+        ensures weight { IfOk result (λ env. weight_of env ≡ 1 + weight_of self.now) }
     {
         let rest = self.shared()?;
         Ok(Env {
@@ -48,9 +63,9 @@ impl Env {
         })
     }
 
-    /// The variable stands for the closed term of a node.
+    /// The variable stands for the term of a node. Variables of that term stand for nothing.
     pub fn node(&self, variable: u32, term: &Rc<Term>) -> Result<Env, AllocError>
-        ensures { IfOk result (λ env. places_of env ≡ put variable (plain term.now.value) (places_of self.now)) }
+        ensures { IfOk result (λ env. places_of env ≡ put variable (close nowhere (plain term.now.value)) (places_of self.now)) }
     {
         let rest = self.shared()?;
         Ok(Env {
@@ -77,8 +92,29 @@ impl Env {
         })
     }
 
+    /// The same variables, in an environment of its own.
+    pub fn copy(&self) -> Result<Env, AllocError>
+        ensures places { IfOk result (λ env. places_of env ≡ places_of self.now) }
+        ensures weight { IfOk result (λ env. weight_of env ≡ weight_of self.now) }
+    {
+        let entries = self.entries.copy()?;
+        Ok(Env {
+            alloc: self.alloc,
+            entries,
+        })
+    }
+
+    /// What a variable stands for.
+    pub fn find(&self, variable: u32) -> Result<Binding, AllocError>
+        ensures holds { IfOk result (λ binding. Holds binding (places_of self.now variable)) }
+        ensures lighter { IfOk result (IsLighter (weight_of self.now)) }
+    {
+        self.entries.find(self.alloc, variable)
+    }
+
     fn shared(&self) -> Result<Rc<Entries>, AllocError>
-        ensures { IfOk result (λ entries. places_in entries.value ≡ places_of self.now) }
+        ensures places { IfOk result (λ entries. places_in entries.value ≡ places_of self.now) }
+        ensures weight { IfOk result (λ entries. weight_in entries.value ≡ weight_of self.now) }
     {
         let entries = self.entries.copy()?;
         Ok(Rc::new(self.alloc, entries)?)
@@ -86,10 +122,12 @@ impl Env {
 }
 
 impl Entries {
-    ghost use Rattle.asm_node.specs.Env.{places_in};
+    ghost use Rattle.asm_node.specs.Env.{places_in, Holds};
+    ghost use Rattle.asm_node.specs.Weight.{weight_in, IsLighter};
 
     fn copy(&self) -> Result<Entries, AllocError>
-        ensures { IfOk result (λ entries. places_in entries ≡ places_in self.now) }
+        ensures places { IfOk result (λ entries. places_in entries ≡ places_in self.now) }
+        ensures weight { IfOk result (λ entries. weight_in entries ≡ weight_in self.now) }
     {
         match self {
             Entries::Empty => Ok(Entries::Empty),
@@ -106,6 +144,37 @@ impl Entries {
                 caller.clone()?,
                 rest.clone()?,
             )),
+        }
+    }
+
+    fn find(&self, alloc: Global, variable: u32) -> Result<Binding, AllocError>
+        ensures holds { IfOk result (λ binding. Holds binding (places_in self.now variable)) }
+        ensures lighter { IfOk result (IsLighter (weight_in self.now)) }
+    {
+        match self {
+            Entries::Empty => Ok(Binding::Free),
+            Entries::Value(known, value, rest) => {
+                if *known == variable {
+                    Ok(Binding::Value(*value))
+                } else {
+                    Ok(rest.find(alloc, variable)?)
+                }
+            }
+            Entries::Node(known, term, rest) => {
+                if *known == variable {
+                    Ok(Binding::Node(term.clone()?))
+                } else {
+                    Ok(rest.find(alloc, variable)?)
+                }
+            }
+            Entries::Actual(known, domain, term, caller, rest) => {
+                if *known == variable {
+                    let entries = caller.copy()?;
+                    Ok(Binding::Actual(*domain, term.clone()?, Env { alloc, entries }))
+                } else {
+                    Ok(rest.find(alloc, variable)?)
+                }
+            }
         }
     }
 }

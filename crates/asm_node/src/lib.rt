@@ -1,11 +1,15 @@
 //! Terms and rules as nodes, and what they mean.
 #![tactic(auto)]
 
+mod choosing_law;
 mod env;
+mod extending_law;
 mod input;
+mod model;
 mod operator;
 mod path;
 mod pool;
+mod range;
 mod rule;
 mod stop;
 mod term;
@@ -13,11 +17,15 @@ mod term;
 mod tests;
 mod words;
 
-pub use env::Env;
+pub use choosing_law::words_are_choices;
+pub use env::{Binding, Env};
+pub use extending_law::steps_extend;
 pub use input::Input;
+pub use model::{Definition, Definitions, InitialTerms, MacroRule, Model, Rules, Terms};
 pub use operator::{Op, Quantifier};
 pub use path::{Path, Step, Values};
 pub use pool::Pool;
+pub use range::{ranges_hold, worlds_are_filled};
 pub use rule::{Rule, RuleKind};
 pub use stop::Stop;
 pub use term::{Binder, Term, TermKind};

@@ -1,5 +1,5 @@
 -- What pairs that are put in leave of a state.
-use Rattle.std.proofs.Common.{◌≡◌, ℕ, Bool as Truth, true, false, cond, not, ◌&&◌, ◌||◌, List, [], ◌∷◌, ◌++◌, get_or, Option, Some, None, option_map, find, nat_eq, refl, sym, ap, ◌∙◌, subst, true≢false, T, eqb→eq, eq-eqb, inl, inr, ◌⊎◌}
+use Rattle.std.proofs.Common.{◌≡◌, ℕ, Bool as Truth, true, false, cond, not, ◌&&◌, ◌||◌, List, [], ◌∷◌, ◌++◌, get_or, Option, Some, None, option_map, unwrap_or, find, nat_eq, refl, sym, ap, ◌∙◌, subst, true≢false, T, eqb→eq, eq-eqb, inl, inr, ◌⊎◌}
 use Rattle.std.specs.Option.{IsSome, option_or}
 use Rattle.std.specs.Ordering.{nat_cmp, int_cmp, eq_by_cmp}
 use Rattle.std.specs.Cmp.{nat_cmp_total, unsigned_tied, Equal-is}
@@ -9,11 +9,13 @@ use Rattle.std.specs.List.{list_any, list_all}
 use Rattle.asm_domain.specs.declared.value.Value.{Value}
 use Rattle.asm_domain.specs.declared.value.Value.TheVariants.{Undef, Bool, Int, Elem}
 use Rattle.asm_state.specs.State.{State}
-use Rattle.asm_node.specs.UpdateSet.{Pair, agree, consistent, touches}
+use Rattle.asm_node.specs.UpdateSet.{Pair, UpdateSet, agree, consistent, touches, value_at, fire}
+use Rattle.asm_node.proofs.Revising.{get-revised, same_state}
+use Rattle.std.specs.FinSet as set
 use Rattle.asm_node.proofs.UpdateSets.{of_list, any-items, consistent-list, value_at-list}
 use Rattle.asm_node.specs.Values.{same}
 use Rattle.asm_update.proofs.Ordered.{any_at_place}
-use Rattle.asm_update.specs.Applied.{IsOfSlots, IsFired, put_in, HaveSlots}
+use Rattle.asm_update.specs.Applied.{IsOfSlots, put_in, HaveSlots}
 
 abbrev of_slot : ℕ → Pair → Truth
 of_slot slot p = nat_eq p.0 slot
@@ -105,9 +107,12 @@ found_none test (q ∷ ps) is =
 abbrev value_of_pair : Pair → Value
 value_of_pair p = p.1
 
--- a consistent set's pairs, put in one after the other, fire the set
-pub put_in-fires : (ps : List Pair) (s : State) → consistent (of_list ps) ≡ true → IsFired (of_list ps) s (put_in s ps)
-put_in-fires ps s agrees slot =
+-- each slot has the set's value where the set has one, and else what it had
+abbrev IsFired : UpdateSet → State → State → Type 0
+IsFired u old new = (slot : ℕ) → get new slot ≡ option_or (value_at u slot) (get old slot)
+
+put_in-fired : (ps : List Pair) (s : State) → consistent (of_list ps) ≡ true → IsFired (of_list ps) s (put_in s ps)
+put_in-fired ps s agrees slot =
     (elim (find (of_slot slot) ps) as (λ o. find (of_slot slot) ps ≡ o → get (put_in s ps) slot ≡ option_or (option_map value_of_pair o) (get s slot)) [
       | None ↦ λ none. untouched ps s slot (found_none (of_slot slot) ps none)
       | Some p ↦ λ one.
@@ -116,6 +121,36 @@ put_in-fires ps s agrees slot =
           ap (λ l. get (put_in s ps) l) (sym e) ∙ agreed p ps s f.1 (inr (ap (λ l. list_any (of_slot l) ps) e ∙ f.2))
     ] refl)
     ∙ sym (ap (λ o. option_or o (get s slot)) (value_at-list ps slot agrees))
+
+find_any : (test : Pair → Truth) (ps : List Pair) (p : Pair) → find test ps ≡ Some p → list_any test ps ≡ true
+find_any test ps p is = (found_agrees test (λ _. true) ps p is (all ps)).2
+  where
+    all : (ps : List Pair) → list_all (λ _. true) ps ≡ true
+    all [] = refl
+    all (p ∷ ps) = all ps
+
+has_value : (u : UpdateSet) (slot : ℕ) (v : Value) → value_at u slot ≡ Some v → touches u slot ≡ true
+has_value u slot v is =
+    elim (find (of_slot slot) (set.items u)) as (λ o. find (of_slot slot) (set.items u) ≡ o → option_map value_of_pair o ≡ Some v → touches u slot ≡ true) [
+      | None ↦ λ _ e. absurd (cc e)
+      | Some p ↦ λ one _. find_any (of_slot slot) (set.items u) p one
+    ] refl is
+
+fired_value : (u : UpdateSet) (s : State) (slot : ℕ) → IsOfSlots u s → option_or (value_at u slot) (get s slot) ≡ option_map (λ v. unwrap_or (value_at u slot) v) (get s slot)
+fired_value u s slot of =
+    elim (value_at u slot) as (λ o. value_at u slot ≡ o → option_or o (get s slot) ≡ option_map (λ v. unwrap_or o v) (get s slot)) [
+      | None ↦ λ _. elim (get s slot) as (λ g. g ≡ option_map (λ (v : Value). v) g) [ None ↦ refl | Some v ↦ refl ]
+      | Some w ↦ λ is. elim (get s slot) as (λ g. IsSome g → ◌≡◌ {A = Option Value} (Some w) (option_map (λ (v : Value). w) g)) [
+        | None ↦ λ some. absurd (cc some)
+        | Some v ↦ λ _. refl
+      ] (of slot (has_value u slot w is))
+    ] refl
+
+-- a consistent set's pairs, put in one after the other, fire the set
+pub put_in-fires : (ps : List Pair) (s : State) → IsOfSlots (of_list ps) s → consistent (of_list ps) ≡ true → put_in s ps ≡ fire s (of_list ps)
+put_in-fires ps s of agrees = same_state (put_in s ps) (fire s (of_list ps)) (λ slot.
+    put_in-fired ps s agrees slot ∙ fired_value (of_list ps) s slot of
+    ∙ sym (get-revised (λ l v. unwrap_or (value_at (of_list ps) l) v) s slot))
 
 -- a slot of which the set has no pair keeps its value
 pub put_in-others : (ps : List Pair) (s : State) (slot : ℕ) → touches (of_list ps) slot ≡ false → get (put_in s ps) slot ≡ get s slot

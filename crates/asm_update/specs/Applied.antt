@@ -1,17 +1,12 @@
 -- What is left of a state once an update set is put in.
 use Rattle.std.specs.Prelude.{◌≡◌, ℕ, ◌<◌, true, List, [], ◌∷◌, length, slice_index_or, IsSome}
-use Rattle.std.specs.Option.{option_or}
 use Rattle.std.specs.FinMap.{get, insert}
 use Rattle.asm_state.specs.State.{State}
-use Rattle.asm_node.specs.UpdateSet.{Pair, UpdateSet, touches, value_at}
+use Rattle.asm_node.specs.UpdateSet.{Pair, UpdateSet, touches}
 
 -- each slot of the set is one of the state's
 abbrev pub IsOfSlots : UpdateSet → State → Type 0
 IsOfSlots u s = (slot : ℕ) → touches u slot ≡ true → IsSome (get s slot)
-
--- each slot has the set's value where the set has one, and else what it had
-abbrev pub IsFired : UpdateSet → State → State → Type 0
-IsFired u old new = (slot : ℕ) → get new slot ≡ option_or (value_at u slot) (get old slot)
 
 -- the state after the pairs are put in, one after the other
 abbrev pub put_in : State → List Pair → State

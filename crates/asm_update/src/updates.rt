@@ -4,8 +4,8 @@ ghost use Rattle.std.specs.FinSet as set;
 ghost use Rattle.std.specs.List.{IsDistinct};
 ghost use Rattle.std.specs.List.Sorted.{IsStrictlySortedBy, IsPermutation, IsSorted};
 ghost use Rattle.std.specs.Ordering.{eq_by_cmp};
-ghost use Rattle.asm_node.specs.UpdateSet.{clash, consistent, touches, override, pair_cmp};
-ghost use Rattle.asm_update.specs.Applied.{IsOfSlots, IsFired, HaveSlots, put_in};
+ghost use Rattle.asm_node.specs.UpdateSet.{clash, consistent, touches, override, fire, pair_cmp};
+ghost use Rattle.asm_update.specs.Applied.{IsOfSlots, HaveSlots, put_in};
 ghost use Rattle.asm_update.specs.Clash.{HaveLocations};
 ghost use Rattle.asm_update.specs.Order.{rank_cmp};
 
@@ -97,7 +97,7 @@ impl Updates {
     pub fn apply<S: Store>(&self, store: &mut S)
         requires consistent { consistent self.now ≡ true }
         requires slots { IsOfSlots self.now (S.state store.old) }
-        ensures fired { IsFired self.now (S.state store.old) (S.state store.new) }
+        ensures fired { S.state store.new ≡ fire (S.state store.old) self.now }
         ensures others { (slot : ℕ) → touches self.now slot ≡ false → map.get (S.state store.new) slot ≡ map.get (S.state store.old) slot }
     {
         put_in(&self.pairs, store);

@@ -5,8 +5,8 @@ use Rattle.asm_io.specs.Outside.{Adds}
 use Rattle.asm_io.specs.Writes.{Writes, WritesFront}
 use Rattle.asm_io.specs.declared.sources.Source.{Source}
 use Rattle.asm_io.proofs.Printing.{front_more, front_part, rose_after}
-use Rattle.asm_fire.specs.declared.stop.Stop.{Stop}
-use Rattle.asm_fire.specs.Meaning.{State, Next, Moves, Stops, next}
+use Rattle.boolean_fire.specs.declared.stop.Stop.{Stop}
+use Rattle.boolean_fire.specs.Meaning.{State, Next, Moves, Stops, next}
 use Rattle.boolean_run.specs.declared.machine.Machine.{Machine}
 use Rattle.boolean_run.specs.declared.run.OutError.{OutError}
 use Rattle.boolean_run.specs.declared.run.OutError.TheVariants.{Write, Memory}

@@ -9,12 +9,12 @@ use Rattle.boolean_body.specs.declared.tree.RawRule.{RawRule, RawRule-F, fold-Ra
 use Rattle.boolean_body.specs.declared.tree.RawRuleKind.TheOpen.{RawRuleKind-F}
 use Rattle.boolean_body.specs.declared.tree.RawInitial.{RawInitial}
 use Rattle.boolean_body.specs.declared.tree.RawUnit.{RawUnit}
-use Rattle.asm_fire.specs.declared.value.Value.{Value}
-use Rattle.asm_fire.specs.declared.value.Value.TheVariants as value
-use Rattle.asm_fire.specs.declared.rule.Term.{Term}
-use Rattle.asm_fire.specs.declared.rule.Term.TheVariants as term
-use Rattle.asm_fire.specs.declared.rule.Rule.{Rule}
-use Rattle.asm_fire.specs.declared.rule.Rule.TheVariants as rule
+use Rattle.boolean_fire.specs.declared.value.Value.{Value}
+use Rattle.boolean_fire.specs.declared.value.Value.TheVariants as value
+use Rattle.boolean_fire.specs.declared.rule.Term.{Term}
+use Rattle.boolean_fire.specs.declared.rule.Term.TheVariants as term
+use Rattle.boolean_fire.specs.declared.rule.Rule.{Rule}
+use Rattle.boolean_fire.specs.declared.rule.Rule.TheVariants as rule
 use Rattle.boolean_run.specs.declared.machine.Machine.{Machine}
 
 abbrev pub Name : Type 0

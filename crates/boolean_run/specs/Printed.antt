@@ -4,11 +4,11 @@ use Rattle.std.specs.Fmt.{decimal}
 use Rattle.asm_io.specs.declared.sources.Source.{Source}
 use Rattle.asm_io.specs.declared.sources.Spot.{Spot}
 use Rattle.asm_io.specs.Spots.{spot_at, text_of}
-use Rattle.asm_fire.specs.declared.value.Value.{Value}
-use Rattle.asm_fire.specs.declared.value.Value.TheVariants as value
-use Rattle.asm_fire.specs.declared.stop.Stop.{Stop}
-use Rattle.asm_fire.specs.declared.stop.Stop.TheVariants as stop
-use Rattle.asm_fire.specs.Meaning.{State, Next, Moves, Stops, next}
+use Rattle.boolean_fire.specs.declared.value.Value.{Value}
+use Rattle.boolean_fire.specs.declared.value.Value.TheVariants as value
+use Rattle.boolean_fire.specs.declared.stop.Stop.{Stop}
+use Rattle.boolean_fire.specs.declared.stop.Stop.TheVariants as stop
+use Rattle.boolean_fire.specs.Meaning.{State, Next, Moves, Stops, next}
 use Rattle.boolean_run.specs.declared.machine.Machine.{Machine}
 use Rattle.boolean_run.specs.declared.run.RunEnd.{RunEnd}
 use Rattle.boolean_run.specs.declared.run.RunEnd.TheVariants.{Done, Stopped}

@@ -2,8 +2,8 @@
 use Rattle.std.specs.Prelude.{◌≡◌, Option, Some, None}
 use Rattle.asm_io.specs.declared.sink.SinkError.{SinkError}
 use Rattle.asm_io.specs.declared.sink.SinkError.TheVariants as sink
-use Rattle.asm_fire.specs.declared.stop.Stop.{Stop}
-use Rattle.asm_fire.specs.Meaning.{State, Next, Moves, Stops}
+use Rattle.boolean_fire.specs.declared.stop.Stop.{Stop}
+use Rattle.boolean_fire.specs.Meaning.{State, Next, Moves, Stops}
 use Rattle.boolean_run.specs.declared.run.OutError.{OutError}
 use Rattle.boolean_run.specs.declared.run.OutError.TheVariants as out
 

@@ -4,9 +4,9 @@ ghost use Rattle.boolean_run.specs.Machine as spec;
 
 use crate::names::{are_declared, are_distinct, are_initials_distinct, find_initial};
 use crate::resolve::rule_of;
-use asm_fire::{Rule, Value};
 use asm_list::{Listed, Name};
 use boolean_body::tree::{RawInitial, RawTermKind, RawUnit};
+use boolean_fire::{Rule, Value};
 use std::alloc::{AllocError, Global};
 
 /// The greatest number of functions of a model.

@@ -3,9 +3,9 @@ ghost use Rattle.std.specs.Prelude.{◌≡◌, ◌<◌, ◌≤◌, ◌^◌, ◌+
 ghost use Rattle.asm_io.specs.Spots.{spot_at, text_of};
 ghost use Rattle.boolean_run.specs.Printed as spec;
 
-use asm_fire::{Stop, Value};
 use asm_io::{Place, Sources, Spot, Text, append_number, append_str};
 use asm_list::Name;
+use boolean_fire::{Stop, Value};
 use std::alloc::{AllocError, Global};
 
 /// The text of a value.

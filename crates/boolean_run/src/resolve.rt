@@ -5,9 +5,9 @@ ghost use Rattle.boolean_run.specs.Resolved.{Resolves};
 
 use crate::machine::MachineError;
 use crate::names;
-use asm_fire::{Rule, Term, Value};
 use asm_list::{Boxed, Listed, Name};
 use boolean_body::tree::{RawRule, RawRuleKind, RawTerm, RawTermKind};
+use boolean_fire::{Rule, Term, Value};
 use std::alloc::Global;
 
 /// The location of the function of this name.

@@ -3,15 +3,15 @@ ghost use Rattle.std.specs.Prelude.{◌≡◌, ◌<◌, ◌≤◌, ◌^◌, leng
 ghost use Rattle.asm_io.specs.Spots.{text_of};
 ghost use Rattle.asm_io.specs.Writes.{Writes};
 ghost use Rattle.boolean_run.specs.declared.run.OutError.TheVariants.{Write};
-ghost use Rattle.asm_fire.specs.Meaning.{next};
+ghost use Rattle.boolean_fire.specs.Meaning.{next};
 ghost use Rattle.boolean_run.specs.Printed as printed;
 ghost use Rattle.boolean_run.specs.Printed.{run_of, run_from};
 ghost use Rattle.boolean_run.specs.Printing.{Advances};
 
 use crate::machine::Machine;
 use crate::print::{state_text, stop_line};
-use asm_fire::{Rule, StepError, Stop, Value, step};
 use asm_io::{Sink, SinkError, Sources, write_text};
+use boolean_fire::{Rule, StepError, Stop, Value, step};
 use std::alloc::{AllocError, Global};
 
 /// How a run ends.

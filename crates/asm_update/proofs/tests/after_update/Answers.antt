@@ -1,10 +1,12 @@
 use Rattle.std.proofs.Common.{◌≡◌, ℕ, Bool as Truth, true, false, ◌||◌, ◌&&◌, not, nat_eq, refl, sym, ap, ◌∙◌, subst, T, eqb→eq, eq-eqb, true≢false, Option, Some, None, [], ◌∷◌}
 use Rattle.std.specs.FinMap.{get}
 use Rattle.std.specs.FinSet as set
-use Rattle.std.specs.Option.{IsSome, option_or}
+use Rattle.std.specs.Option.{IsSome, option_map, unwrap_or}
 use Rattle.asm_domain.specs.declared.value.Value.{Value}
 use Rattle.asm_node.specs.Values.{same}
-use Rattle.asm_node.specs.UpdateSet.{Pair, consistent, touches, value_at}
+use Rattle.asm_node.specs.UpdateSet.{Pair, UpdateSet, consistent, touches, value_at, fire}
+use Rattle.asm_node.specs.Machine.{State}
+use Rattle.asm_node.proofs.Revising.{get-revised}
 use Rattle.asm_node.proofs.UpdateSets.{of_list, any-items, consistent-list}
 use Rattle.asm_update.proofs.Differing.{same_itself}
 use Rattle.asm_update.proofs.tests.after_update.Goals as goal
@@ -23,9 +25,14 @@ one_touches p l is =
     or_false true = refl
     or_false false = refl
 
-or_some : (x y : Option Value) → IsSome y → IsSome (option_or x y)
-or_some None y some = some
-or_some (Some v) y some = refl
+mapped_some : (f : Value → Value) (o : Option Value) → IsSome o → IsSome (option_map f o)
+mapped_some f None some = absurd (cc (some))
+mapped_some f (Some v) some = refl
+
+-- a slot of a state is one of the state after it is fired
+fired_some : (s t : State) (u : UpdateSet) (l : ℕ) → t ≡ fire s u → IsSome (get s l) → IsSome (get t l)
+fired_some s t u l is some =
+    subst (λ r. IsSome (get r l)) (sym is) (subst IsSome (sym (get-revised (λ k v. unwrap_or (value_at u k) v) s l)) (mapped_some (λ v. unwrap_or (value_at u l) v) (get s l) some))
 
 pub apply-requires : goal.apply-requires
 apply-requires g c =
@@ -37,7 +44,7 @@ apply-requires g c =
     }
 
 pub get-requires : goal.get-requires
-get-requires g c = subst IsSome (sym (c.apply.ensures.fired c.args.slot)) (or_some _ _ c.requires.slot)
+get-requires g c = fired_some _ _ _ c.args.slot c.apply.ensures.fired c.requires.slot
 
 pub get-requires-2 : goal.get-requires-2
-get-requires-2 g c = subst IsSome (sym (c.apply.ensures.fired c.args.other)) (or_some _ _ c.requires.other)
+get-requires-2 g c = fired_some _ _ _ c.args.other c.apply.ensures.fired c.requires.other

@@ -1,7 +1,7 @@
 use Rattle.std.proofs.Common.{◌≡◌, ◌∙◌, ap, sym, arith, append-nil, refl, [], ◌++◌, ◌-◌, ◌+◌}
 use Rattle.std.proofs.lemmas.Result.{err_from_is_err_and}
 use Rattle.std.specs.Prelude.{codes}
-use Rattle.asm_fire.specs.Meaning.{next, Moves, Stops}
+use Rattle.boolean_fire.specs.Meaning.{next, Moves, Stops}
 use Rattle.boolean_run.specs.Printed.{Printed, after, line, run_from, state_text, stop_line}
 use Rattle.boolean_run.proofs.Runs.{stopped, between, went_on, written_all, run_from-state, run_from-stop, run_from-move, run_from-end, advances-some, advances-none}
 use Rattle.boolean_run.proofs.run.run_on.Goals as goal

@@ -1,8 +1,8 @@
 use Rattle.std.proofs.Common.{sym, subst, ap, ◌∙◌}
 use Rattle.std.specs.FinMap.{get}
-use Rattle.asm_node.specs.UpdateSet.{consistent, touches}
+use Rattle.asm_node.specs.UpdateSet.{consistent, touches, fire}
 use Rattle.asm_node.proofs.UpdateSets.{of_list}
-use Rattle.asm_update.specs.Applied.{IsOfSlots, IsFired, HaveSlots, put_in}
+use Rattle.asm_update.specs.Applied.{IsOfSlots, HaveSlots, put_in}
 use Rattle.asm_update.proofs.Putting.{put_in-fires, put_in-others, have_slots}
 use Rattle.asm_update.proofs.updates.Updates.apply.Goals as goal
 
@@ -16,8 +16,8 @@ returns-clause-fired g c =
     let s = g.S.Store.state c.args.store.now in
     let ps = c.self.inside.pairs.items in
     let is = c.put_in.ensures ∙ ap (put_in s) c.deref.ensures.value in
-    subst (λ u. IsFired u s (g.S.Store.state c.put_in.new.store)) c.self.view_is
-    (subst (IsFired (of_list ps) s) (sym is) (put_in-fires ps s (ap consistent c.self.view_is ∙ c.requires.consistent)))
+    is ∙ put_in-fires ps s (subst (λ u. IsOfSlots u s) (sym c.self.view_is) c.requires.slots) (ap consistent c.self.view_is ∙ c.requires.consistent)
+    ∙ ap (fire s) c.self.view_is
 
 pub returns-clause-others : goal.returns-clause-others
 returns-clause-others g c slot none =

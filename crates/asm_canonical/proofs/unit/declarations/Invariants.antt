@@ -1,0 +1,8 @@
+use Rattle.std.proofs.Common.{◌≡◌, ◌++◌, drop}
+use Rattle.std.specs.Prelude.{map}
+use Rattle.asm_canonical.specs.Document.{text_in, lines}
+use Rattle.asm_canonical.specs.Units.{declaration_doc}
+use Rattle.asm_canonical.proofs.unit.declarations.Given as goal
+
+abbrev pub invariant-items : goal.invariant-items
+invariant-items l = l.text ++ text_in (lines 1 (map declaration_doc (drop l.item-index l.items))) ≡ l.initial.text ++ text_in (lines 1 (map declaration_doc l.items))

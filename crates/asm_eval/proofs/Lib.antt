@@ -1,0 +1,6 @@
+pub mod Closing
+pub mod Elements
+pub mod Evaluating
+pub mod Lists
+pub mod Locations
+pub mod Worth

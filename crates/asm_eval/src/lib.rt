@@ -1,0 +1,22 @@
+//! The values of terms.
+#![tactic(auto)]
+
+mod apply;
+mod bind;
+mod element;
+mod error;
+mod location;
+mod number;
+mod quantify;
+mod terms;
+mod truth;
+mod tuple;
+mod world;
+
+pub use bind::bound;
+pub use element::{is_element, within};
+pub use error::EvalError;
+pub use terms::{eval, eval_all, eval_in};
+pub use truth::is_undef;
+pub use tuple::{Tuples, tuples_of};
+pub use world::World;

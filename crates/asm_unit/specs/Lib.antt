@@ -1,0 +1,5 @@
+pub mod Path
+pub mod Import
+pub mod Spelled
+pub mod Unit
+pub mod Loading

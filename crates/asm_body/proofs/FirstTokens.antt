@@ -2,7 +2,7 @@
 use Rattle.std.proofs.Common.{◌≡◌, ℕ, Bool, true, false, ◌||◌, List, [], ◌∷◌, ◌++◌, refl, ap, sym, ◌∙◌}
 use Rattle.std.specs.Prelude.{◌==◌}
 use Rattle.asm_grammar.specs.Grammar.{has, firsts}
-use Rattle.asm_tree.specs.Words.{kind_of, number}
+use Rattle.asm_tree.specs.Words.{kind_of}
 use Rattle.asm_tree.specs.declared.class.Class.TheVariants as class
 use Rattle.asm_tree.specs.Language.{models, functions}
 use Rattle.asm_tree.specs.Terms.{arguments, call, leaf, named, enclosed, primary, opposite, product, product_tail, sum, sum_tail, comparison, comparison_tail, negation, conjunction, conjunction_tail, disjunction, disjunction_tail, implication, implication_tail, equivalence, equivalence_tail, term, terms, more_terms}

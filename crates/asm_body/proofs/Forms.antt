@@ -1,20 +1,14 @@
 -- How the forms of terms are read.
-use Rattle.std.proofs.Common.{◌≡◌, ℕ, Bool, true, false, if◌then◌else◌, List, [], ◌∷◌, Ok, Some, None, refl, ap, ◌∙◌}
-use Rattle.asm_grammar.specs.Grammar.{Outcome, and_then, has, ahead, word_at, opening_at, reader, firsts}
+use Rattle.std.proofs.Common.{◌≡◌, ℕ, Bool, true, false, if◌then◌else◌, List, [], ◌∷◌, Ok, refl, ap}
+use Rattle.asm_grammar.specs.Grammar.{Outcome, and_then, has, ahead}
 use Rattle.asm_tree.specs.Words.{kind_of}
 use Rattle.asm_tree.specs.declared.class.Class.TheVariants as class
-use Rattle.asm_tree.specs.declared.operator.UnaryOp.TheVariants as unary
 use Rattle.asm_tree.specs.declared.class.Class.{Class}
-use Rattle.asm_tree.specs.declared.term.RawBind.{RawBind}
-use Rattle.asm_tree.specs.declared.term.RawTerm.{RawTerm}
-use Rattle.asm_tree.specs.declared.term.RawTermKind.{RawTermKind}
-use Rattle.asm_tree.specs.Language.{TokenText, Phrase, after, before, Grouping, Quantified, Plain, models, functions, Inside, Value, NamedOne, NamedTwo, NamedMinus, OneOperand, TwoOperands, MinusOperands, Grouped, Arguments, ForallTerm, ExistTerm, ConditionalTerm, SwitchTerm, LetTerm, Binds, Opposite, Negated, Compared, Implied, Equivalent, Disjoined, Joined, Added, Multiplied}
-use Rattle.asm_tree.specs.Terms.{arguments, call, leaf, named, enclosed, primary, quantifier_term, group, term, binder, more_binders, binders, unique, one_names, two_names, named_one, named_two, named_minus, grouped, conditional_term, switch_term, let_term, forall_term, exist_term, opposite, negation, comparison, comparison_tail, comparisons, implication_tail, before_operand, equivalence_tail, disjunction_tail, conjunction_tail, sum_tail, product_tail}
+use Rattle.asm_tree.specs.Language.{TokenText, after, before, Quantified, Plain, models, functions, NamedOne, NamedTwo, NamedMinus, OneOperand, TwoOperands, MinusOperands, Grouped, Arguments, ForallTerm, ExistTerm, ConditionalTerm, SwitchTerm, LetTerm, Binds}
+use Rattle.asm_tree.specs.Terms.{arguments, call, leaf, named, enclosed, primary, quantifier_term, group, term, binder, more_binders, binders, unique, one_names, two_names, named_one, named_two, named_minus, grouped, conditional_term, switch_term, let_term, forall_term, exist_term}
 use Rattle.asm_tree.specs.Rules.{body}
-use Rattle.asm_body.specs.Reading.{opened, opened_in, read_in, read_flat}
-use Rattle.asm_body.specs.Levels.{leaves, names, operators, inner_level, tail, behind, operand}
-use Rattle.asm_body.specs.declared.chain.Chain.{Chain}
-use Rattle.asm_body.specs.declared.chain.Chain.TheVariants as chain
+use Rattle.asm_body.specs.Reading.{opened_in, read_in, read_flat}
+use Rattle.asm_body.specs.Levels.{leaves, names}
 use Rattle.asm_body.proofs.Opening.{opens}
 
 abbrev pub one : Class → List ℕ

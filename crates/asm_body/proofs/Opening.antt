@@ -1,8 +1,8 @@
 -- How what opens a level is read.
-use Rattle.std.proofs.Common.{◌≡◌, ℕ, zero, suc, Bool, true, false, if◌then◌else◌, List, [], ◌∷◌, ◌++◌, Ok, Err, Some, None, refl, ap, ◌∙◌, ◌-◌, arith, length}
+use Rattle.std.proofs.Common.{◌≡◌, ℕ, zero, suc, Bool, true, false, if◌then◌else◌, List, [], ◌∷◌, Ok, Err, refl, ap, ◌∙◌, ◌-◌, arith, length}
 use Rattle.std.proofs.lemmas.List.{length-map}
 use Rattle.asm_grammar.specs.declared.Stop.TheVariants.{Syntax}
-use Rattle.asm_grammar.specs.Grammar.{Outcome, and_then, has, kind, opening_at, entered, reader, ahead, many_at, firsts, Grammar, many}
+use Rattle.asm_grammar.specs.Grammar.{Outcome, and_then, has, kind, opening_at, entered, reader, many_at, firsts, Grammar, many}
 use Rattle.asm_tree.specs.Language.{TokenText, models, Inside, Value}
 use Rattle.asm_tree.specs.Rules.{body}
 use Rattle.asm_body.specs.Reading.{opened, opened_in, read_in}

@@ -1,11 +1,10 @@
 -- The table of operators says which operator each kind of token is.
-use Rattle.std.proofs.Common.{◌≡◌, ℕ, ◌+◌, ◌<◌, Bool, true, false, ◌||◌, List, [], ◌∷◌, refl, length, drop, get_or, drop-cons, add-one, if◌then◌else◌, sym, ◌∙◌}
+use Rattle.std.proofs.Common.{◌≡◌, ℕ, ◌+◌, ◌<◌, Bool, true, false, ◌||◌, List, [], ◌∷◌, refl, length, drop, get_or, drop-cons, add-one, sym, ◌∙◌}
 use Rattle.std.specs.Prelude.{◌==◌}
-use Rattle.asm_grammar.specs.Grammar.{has, kind}
+use Rattle.asm_grammar.specs.Grammar.{has}
 use Rattle.asm_tree.specs.Words.{kind_of}
 use Rattle.asm_tree.specs.declared.class.Class.{Class}
 use Rattle.asm_tree.specs.declared.operator.Op.{Op}
-use Rattle.asm_tree.specs.declared.operator.Op.TheVariants.{Max}
 use Rattle.asm_tree.specs.Terms.{op_at}
 use Rattle.asm_body.specs.Rows.{op_in}
 use Rattle.asm_body.specs.declared.operator.TheConstants.{OPERATORS}

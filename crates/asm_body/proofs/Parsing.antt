@@ -1,11 +1,10 @@
 -- Tokens from a place on.
-use Rattle.std.proofs.Common.{◌≡◌, ℕ, zero, suc, ◌-◌, ◌≤◌, Bool, true, false, List, [], ◌∷◌, refl, ap, sym, ◌∙◌, arith, length, take, drop, if◌then◌else◌, Ok}
+use Rattle.std.proofs.Common.{◌≡◌, ℕ, zero, suc, ◌-◌, true, false, List, [], ◌∷◌, refl, ap, sym, ◌∙◌, length, take, drop, if◌then◌else◌, Ok}
 use Rattle.std.proofs.lemmas.List.{length-map, length-drop}
 use Rattle.asm_lex.specs.declared.token.Token.{Token}
-use Rattle.asm_lex.specs.Cut.{cut, IsIn, AreIn}
+use Rattle.asm_lex.specs.Cut.{cut, AreIn}
 use Rattle.asm_lex.proofs.Small.{AreSmall, small}
 use Rattle.asm_lex.proofs.Sound.{sound}
-use Rattle.asm_tree.specs.declared.error.ParseError.{ParseError}
 use Rattle.asm_tree.specs.declared.error.ParseError.TheVariants.{Syntax, Unsupported}
 use Rattle.asm_body.specs.declared.lexeme.Lexeme.{Lexeme}
 use Rattle.asm_body.specs.Fronts.{left_out}
@@ -19,12 +18,12 @@ seen_from (suc n) (x ∷ xs) = seen_from n xs
 left_out_at : (xs : List Lexeme) (left : ℕ) → left_out (drop (length (all_seen xs) - left) (all_seen xs)) ≡ left_out (all_seen (drop (length xs - left) xs))
 left_out_at xs left = ap (λ (n : ℕ). left_out (drop (n - left) (all_seen xs))) (length-map xs seen) ∙ ap left_out (sym (seen_from (length xs - left) xs))
 
-all_taken : (xs : List Lexeme) → take (length xs) xs ≡ xs
+all_taken : {T : Type 0} (xs : List T) → take (length xs) xs ≡ xs
 all_taken [] = refl
-all_taken (x ∷ xs) = ap (λ (ys : List Lexeme). x ∷ ys) (all_taken xs)
+all_taken {T} (x ∷ xs) = ap (λ (ys : List T). x ∷ ys) (all_taken xs)
 
 -- The items from a place to the end are those from it on.
-pub to_end : (n : ℕ) (xs : List Lexeme) → take (length xs - n) (drop n xs) ≡ drop n xs
+pub to_end : {T : Type 0} (n : ℕ) (xs : List T) → take (length xs - n) (drop n xs) ≡ drop n xs
 to_end n xs = ap (λ (k : ℕ). take k (drop n xs)) (sym (length-drop n xs)) ∙ all_taken (drop n xs)
 
 pub stop_left_out : (xs : List Lexeme) (left k : ℕ) → left_out (all_seen (drop (length xs - left) xs)) ≡ true → (if left_out (drop (length (all_seen xs) - left) (all_seen xs)) then Unsupported k else Syntax k) ≡ Unsupported k

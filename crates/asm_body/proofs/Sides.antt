@@ -1,11 +1,11 @@
 -- How operators are read, level by level.
-use Rattle.std.proofs.Common.{◌≡◌, ℕ, Bool, true, false, if◌then◌else◌, List, [], ◌∷◌, Result, Ok, Err, Some, None, refl, ap, sym, ◌∙◌, subst}
+use Rattle.std.proofs.Common.{◌≡◌, ℕ, Bool, true, false, if◌then◌else◌, List, [], ◌∷◌, Ok, Err, Some, None, refl, sym, ◌∙◌, subst}
 use Rattle.asm_grammar.specs.declared.Stop.{Stop}
 use Rattle.asm_grammar.specs.Grammar.{Outcome, and_then, has, ahead}
 use Rattle.asm_tree.specs.Words.{kind_of}
 use Rattle.asm_tree.specs.declared.class.Class.TheVariants as class
 use Rattle.asm_tree.specs.declared.operator.UnaryOp.TheVariants as unary
-use Rattle.asm_tree.specs.Language.{TokenText, Phrase, models, Inside, Opposite, Negated, Compared, Implied, Equivalent, Disjoined, Joined, Added, Multiplied}
+use Rattle.asm_tree.specs.Language.{TokenText, Phrase, models, Opposite, Negated, Compared, Implied, Equivalent, Disjoined, Joined, Added, Multiplied}
 use Rattle.asm_tree.specs.Terms.{primary, opposite, negation, comparison, comparison_tail, comparisons, implication, implication_tail, equivalence, equivalence_tail, disjunction, disjunction_tail, conjunction, conjunction_tail, sum, sum_tail, product, product_tail, before_operand, chained, joined}
 use Rattle.asm_tree.specs.Rules.{body}
 use Rattle.asm_body.specs.Reading.{opened, opened_in, read_in}

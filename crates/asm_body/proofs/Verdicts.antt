@@ -1,5 +1,5 @@
 -- What the calls that read from a token on answer.
-use Rattle.std.proofs.Common.{◌≡◌, ◌≢◌, ◌⊎◌, inl, inr, ℕ, zero, suc, ◌+◌, ◌-◌, ◌≤◌, ◌<◌, Bool, true, false, if◌then◌else◌, List, ◌++◌, [], ◌∷◌, Result, Ok, Err, refl, ap, sym, ◌∙◌, subst, arith, length, length-append, drop}
+use Rattle.std.proofs.Common.{◌≡◌, ◌≢◌, ◌⊎◌, inl, inr, ℕ, suc, ◌+◌, ◌-◌, ◌≤◌, Bool, true, false, if◌then◌else◌, List, ◌++◌, [], ◌∷◌, Result, Ok, Err, refl, ap, sym, ◌∙◌, subst, arith, length, length-append, drop}
 use Rattle.std.proofs.lemmas.List.{length-map, length-drop}
 use Rattle.asm_grammar.specs.declared.Stop.{Stop}
 use Rattle.asm_grammar.specs.declared.Stop.TheVariants as stop
@@ -11,10 +11,10 @@ use Rattle.asm_tree.specs.declared.error.ParseError.{ParseError}
 use Rattle.asm_tree.specs.declared.error.ParseError.TheVariants.{Memory, Syntax, Unsupported, TooDeep}
 use Rattle.asm_tree.specs.Language.{TokenText, models}
 use Rattle.asm_tree.specs.Rules.{body}
-use Rattle.asm_tree.specs.Spelling.{limit, token_text, token_texts}
+use Rattle.asm_tree.specs.Spelling.{limit, token_text}
 use Rattle.asm_tree.proofs.Checks.{table, late}
 use Rattle.asm_body.specs.declared.lexeme.Lexeme.{Lexeme}
-use Rattle.asm_body.specs.Fronts.{left_out, tokens_on, IsAt, IsStoppedAt, IsDeepAt, Explains, AgreesWith, RefusesWith, error_of, Counts}
+use Rattle.asm_body.specs.Fronts.{left_out, tokens_on, IsAt, IsStoppedAt, Explains, error_of, Counts}
 use Rattle.asm_body.specs.Reading.{read_in}
 use Rattle.asm_body.specs.Seen.{seen, all_seen}
 
@@ -40,6 +40,9 @@ module _ {A : Type 0} (s : Bool) (g : Grammar models A) (c : CheckedWhole models
 
   left_is : (r : List Lexeme) → length (all_seen r) ≡ length r
   left_is r = length-map r seen
+
+  pub few : length xs ≤ length ts
+  few = omega (arith, counted, size_of, left_is xs)
 
   pub is_within : (y : A) (r : List Lexeme) → outcome (all_seen xs) ≡ Ok (y, all_seen r) → length r ≤ length ts
   is_within y r e = let f = front_found models (body s) g table late c (limit - nest) words y (all_seen r) (given (Ok (y, all_seen r)) e) in omega (arith, f.counted, counted, left_is r)

@@ -1,4 +1,4 @@
-//! The tokens of a text with their classes and values, and the readers of single tokens.
+//! Reads the tokens of terms and rules into their trees.
 #![tactic(auto)]
 
 mod binding;
@@ -36,4 +36,4 @@ pub use reading::{
 pub use rule_reader::read_rule;
 pub use sorts::{domains, functions};
 pub use taking::lexemes;
-pub use term_reader::read_term;
+pub use term_reader::{boxed_term, read_term};

@@ -23,6 +23,7 @@ use crate::reading::{begins, begins_among, enter, enter_among, expect};
 use crate::sorts::{one_names, two_names};
 use crate::terms::Terms;
 use asm_grammar::Stop;
+use asm_list::Boxed;
 use asm_tree::Quantifier;
 use asm_tree::class::Class;
 use asm_tree::term::{RawTerm, RawTermKind};
@@ -47,13 +48,13 @@ impl<F: Fn(Global, Level, &[Lexeme], usize, bool) -> Result<(Phrase<'_>, &[Lexem
         &self,
         tokens: &'t [Lexeme],
         levels: usize,
-    ) -> Result<(RawTerm, &'t [Lexeme]), Stop>
+    ) -> Result<(Boxed<RawTerm>, &'t [Lexeme]), Stop>
         requires nests { Nests self.now.below self.now.script (F.pre self.now.operand) (F.post self.now.operand) }
         requires fits { levels ≤ self.now.below }
         ensures { Gives models (λ x. (x.0, all_seen x.1.now)) result (opened_in levels self.now.script (kind_of class_is.Open ∷ []) OneOperand (λ p. p.1) (all_seen tokens.now)) }
     {
         let (_, levels, rest) = enter(tokens, Class::Open, levels)?;
-        let (operand, rest) = self.term(rest, levels)?;
+        let (operand, rest) = self.boxed_term(rest, levels)?;
         let (_, rest) = expect(rest, Class::Close)?;
         Ok((operand, rest))
     }
@@ -63,14 +64,15 @@ impl<F: Fn(Global, Level, &[Lexeme], usize, bool) -> Result<(Phrase<'_>, &[Lexem
         &self,
         tokens: &'t [Lexeme],
         levels: usize,
-    ) -> Result<((RawTerm, RawTerm), &'t [Lexeme]), Stop>
+    ) -> Result<((Boxed<RawTerm>, Boxed<RawTerm>), &'t [Lexeme]), Stop>
         requires nests { Nests self.now.below self.now.script (F.pre self.now.operand) (F.post self.now.operand) }
         requires fits { levels ≤ self.now.below }
         ensures { Gives models (λ x. (x.0, all_seen x.1.now)) result (opened_in levels self.now.script (kind_of class_is.Open ∷ []) TwoOperands (λ p. p.1) (all_seen tokens.now)) }
     {
         let (_, levels, rest) = enter(tokens, Class::Open, levels)?;
-        let (left, rest) = self.term(rest, levels)?;
-        let (right, rest) = self.term_after(Class::Comma, rest, levels)?;
+        let (left, rest) = self.boxed_term(rest, levels)?;
+        let (_, rest) = expect(rest, Class::Comma)?;
+        let (right, rest) = self.boxed_term(rest, levels)?;
         let (_, rest) = expect(rest, Class::Close)?;
         Ok(((left, right), rest))
     }
@@ -80,13 +82,13 @@ impl<F: Fn(Global, Level, &[Lexeme], usize, bool) -> Result<(Phrase<'_>, &[Lexem
         &self,
         tokens: &'t [Lexeme],
         levels: usize,
-    ) -> Result<((RawTerm, Option<RawTerm>), &'t [Lexeme]), Stop>
+    ) -> Result<((Boxed<RawTerm>, Option<Boxed<RawTerm>>), &'t [Lexeme]), Stop>
         requires nests { Nests self.now.below self.now.script (F.pre self.now.operand) (F.post self.now.operand) }
         requires fits { levels ≤ self.now.below }
         ensures { Gives models (λ x. (x.0, all_seen x.1.now)) result (opened_in levels self.now.script (kind_of class_is.Open ∷ []) MinusOperands (λ p. p.1) (all_seen tokens.now)) }
     {
         let (_, levels, rest) = enter(tokens, Class::Open, levels)?;
-        let (left, rest) = self.term(rest, levels)?;
+        let (left, rest) = self.boxed_term(rest, levels)?;
         let (right, rest) = self.optional_term(Class::Comma, rest, levels)?;
         let (_, rest) = expect(rest, Class::Close)?;
         Ok(((left, right), rest))
@@ -162,7 +164,7 @@ impl<F: Fn(Global, Level, &[Lexeme], usize, bool) -> Result<(Phrase<'_>, &[Lexem
         &self,
         tokens: &'t [Lexeme],
         levels: usize,
-    ) -> Result<(RawTermKind, &'t [Lexeme]), Stop>
+    ) -> Result<(Boxed<RawTermKind>, &'t [Lexeme]), Stop>
         requires nests { Nests self.now.below self.now.script (F.pre self.now.operand) (F.post self.now.operand) }
         requires fits { levels ≤ self.now.below }
         ensures { Gives models (λ x. (x.0, all_seen x.1.now)) result (opened_in levels self.now.script (kind_of class_is.Forall ∷ []) ForallTerm terms.forall_term (all_seen tokens.now)) }
@@ -180,7 +182,7 @@ impl<F: Fn(Global, Level, &[Lexeme], usize, bool) -> Result<(Phrase<'_>, &[Lexem
         &self,
         tokens: &'t [Lexeme],
         levels: usize,
-    ) -> Result<(RawTermKind, &'t [Lexeme]), Stop>
+    ) -> Result<(Boxed<RawTermKind>, &'t [Lexeme]), Stop>
         requires nests { Nests self.now.below self.now.script (F.pre self.now.operand) (F.post self.now.operand) }
         requires fits { levels ≤ self.now.below }
         ensures { Gives models (λ x. (x.0, all_seen x.1.now)) result (opened_in levels self.now.script (kind_of class_is.Exist ∷ []) ExistTerm terms.exist_term (all_seen tokens.now)) }
@@ -199,7 +201,7 @@ impl<F: Fn(Global, Level, &[Lexeme], usize, bool) -> Result<(Phrase<'_>, &[Lexem
         &self,
         tokens: &'t [Lexeme],
         levels: usize,
-    ) -> Result<(RawTermKind, &'t [Lexeme]), Stop>
+    ) -> Result<(Boxed<RawTermKind>, &'t [Lexeme]), Stop>
         requires nests { Nests self.now.below self.now.script (F.pre self.now.operand) (F.post self.now.operand) }
         requires fits { levels ≤ self.now.below }
         ensures { Gives models (λ x. (x.0, all_seen x.1.now)) result (read_in levels self.now.script (terms.quantifier_term self.now.script) (all_seen tokens.now)) }

@@ -1,11 +1,11 @@
 //! The calls that read a term or a rule from a token on.
 
-ghost use Rattle.std.specs.Prelude.{◌≡◌, ◌≢◌, ℕ, ◌^◌, ◌<◌, ◌≤◌, length, Ok, IfOk, IfErr};
+ghost use Rattle.std.specs.Prelude.{◌≡◌, ◌≢◌, ℕ, ◌^◌, ◌<◌, ◌≤◌, length, drop, Ok, IfOk, IfErr};
 ghost use Rattle.asm_grammar.specs.Text.{OneTree};
 ghost use Rattle.asm_lex.specs.Cut.{cut};
 ghost use Rattle.asm_tree.specs.Language.{models};
 ghost use Rattle.asm_tree.specs.Rules as rules;
-ghost use Rattle.asm_tree.specs.Spelling.{limit};
+ghost use Rattle.asm_tree.specs.Spelling.{limit, token_texts};
 ghost use Rattle.asm_tree.specs.Terms as terms;
 ghost use Rattle.asm_tree.specs.declared.error.ParseError.{ParseError};
 ghost use Rattle.asm_tree.specs.declared.error.ParseError.TheVariants.{Memory};
@@ -25,7 +25,7 @@ use asm_tree::ParseError;
 use asm_tree::class::Class;
 use asm_tree::rule::RawRule;
 use asm_tree::term::RawTerm;
-use std::alloc::Global;
+use std::alloc::{AllocError, Global};
 
 /// The greatest nesting.
 const LIMIT: usize = 64;
@@ -49,6 +49,20 @@ fn explained(lexemes: &[Lexeme], stop: Stop, tokens: usize) -> ParseError
         }
         Stop::TooDeep(left) => ParseError::TooDeep((tokens - left) as u32),
     }
+}
+
+/// The tokens of the text from this one on.
+fn lexemes_on(
+    alloc: Global,
+    text: &[u8],
+    tokens: &[Token],
+    from: u32,
+) -> Result<Vec<Lexeme>, AllocError>
+    requires together { cut text.now ≡ Ok tokens.now }
+    requires place { from ≤ length tokens.now }
+    ensures { IfOk result (λ xs. all_seen xs.items ≡ token_texts text.now (drop from tokens.now)) }
+{
+    lexemes(alloc, text, &tokens[from as usize..])
 }
 
 /// The longest term from this token on, and the place of the token after it. So many things are open around it. Where
@@ -75,10 +89,11 @@ pub fn term(
     // Where there is such a token, that is the error, unless memory runs out.
     ensures refuses { (e : ParseError) → e ≢ Memory → Explains script (terms.term script) text.now tokens.now from nest e → RefusesWith e result }
 {
-    let lexemes = lexemes(alloc, text, &tokens[from as usize..])?;
-    match read_term(alloc, &lexemes, LIMIT - nest as usize, script) {
+    let lexemes = lexemes_on(alloc, text, tokens, from)?;
+    let listed = lexemes.as_slice();
+    match read_term(alloc, listed, LIMIT - nest as usize, script) {
         Ok((term, rest)) => Ok((term, (tokens.len() - rest.len()) as u32)),
-        Err(stop) => Err(explained(&lexemes, stop, tokens.len())),
+        Err(stop) => Err(explained(listed, stop, tokens.len())),
     }
 }
 
@@ -105,10 +120,11 @@ pub fn rule(
     // Where there is such a token, that is the error, unless memory runs out.
     ensures refuses { (e : ParseError) → e ≢ Memory → Explains script (rules.rule script) text.now tokens.now from nest e → RefusesWith e result }
 {
-    let lexemes = lexemes(alloc, text, &tokens[from as usize..])?;
-    match read_rule(alloc, &lexemes, LIMIT - nest as usize, script) {
+    let lexemes = lexemes_on(alloc, text, tokens, from)?;
+    let listed = lexemes.as_slice();
+    match read_rule(alloc, listed, LIMIT - nest as usize, script) {
         Ok((rule, rest)) => Ok((rule, (tokens.len() - rest.len()) as u32)),
-        Err(stop) => Err(explained(&lexemes, stop, tokens.len())),
+        Err(stop) => Err(explained(listed, stop, tokens.len())),
     }
 }
 

@@ -100,8 +100,10 @@ impl<F: Fn(Global, Level, &[Lexeme], usize, bool) -> Result<(Phrase<'_>, &[Lexem
         requires less { levels < self.now.below }
         ensures { Gives models (λ x. (x.0, all_seen x.1.now)) result (read_in levels self.now.script (terms.case_term self.now.script) (all_seen tokens.now)) }
     {
-        let (label, rest) = self.term_after(Class::Case, tokens, levels)?;
+        let (_, rest) = expect(tokens, Class::Case)?;
+        let (label, rest) = self.boxed_term(rest, levels)?;
         let (value, rest) = self.term_after(Class::Colon, rest, levels)?;
+        let label = label.into_inner();
         Ok((RawCase { label, value }, rest))
     }
 

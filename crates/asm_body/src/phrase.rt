@@ -9,7 +9,7 @@ ghost use Rattle.asm_body.specs.Seen.{seen};
 use crate::lexeme::Lexeme;
 use crate::operator::op_of;
 use asm_list::{Boxed, Listed, Name};
-use asm_tree::term::{RawBind, RawBinder, RawCase, RawTerm, RawTermKind};
+use asm_tree::term::{RawBinder, RawTerm, RawTermKind};
 use asm_tree::{Op, Quantifier, UnaryOp};
 use std::alloc::{AllocError, Global};
 
@@ -17,26 +17,31 @@ use std::alloc::{AllocError, Global};
 #[derive(Drop)]
 pub struct Phrase<'t> {
     pub begins: &'t Lexeme,
-    pub term: RawTerm,
+    pub term: Boxed<RawTerm>,
 }
 
 /// A term at its first token.
-pub fn term_at(alloc: Global, token: &Lexeme, kind: RawTermKind) -> Result<RawTerm, AllocError>
+pub fn term_at(
+    alloc: Global,
+    token: &Lexeme,
+    kind: RawTermKind,
+) -> Result<Boxed<RawTerm>, AllocError>
     ensures { IfOk result (λ t. t ≡ terms.term_at (seen token.now) kind) }
 {
-    Ok(RawTerm {
+    let term = RawTerm {
         at: token.at,
         first: Name::of(alloc, token.text.text())?,
         kind,
-    })
+    };
+    Boxed::new(alloc, term)
 }
 
 /// The guard, which is `true` at the first token where none is written.
 pub fn guard_or(
     alloc: Global,
     first: &Lexeme,
-    guard: Option<RawTerm>,
-) -> Result<RawTerm, AllocError>
+    guard: Option<Boxed<RawTerm>>,
+) -> Result<Boxed<RawTerm>, AllocError>
     ensures { IfOk result (λ t. t ≡ terms.guard_or (seen first.now) guard) }
 {
     match guard {
@@ -49,8 +54,8 @@ pub fn guard_or(
 pub fn other_or(
     alloc: Global,
     first: &Lexeme,
-    other: Option<RawTerm>,
-) -> Result<RawTerm, AllocError>
+    other: Option<Boxed<RawTerm>>,
+) -> Result<Boxed<RawTerm>, AllocError>
     ensures { IfOk result (λ t. t ≡ terms.other_or (seen first.now) other) }
 {
     match other {
@@ -73,13 +78,11 @@ pub fn binary_at<'t>(
     alloc: Global,
     token: &'t Lexeme,
     op: Op,
-    left: RawTerm,
-    right: RawTerm,
+    left: Boxed<RawTerm>,
+    right: Boxed<RawTerm>,
 ) -> Result<Phrase<'t>, AllocError>
     ensures { IfOk result (λ p. seen_phrase p ≡ terms.phrase_at (seen token.now) (term_kind.Binary op left right)) }
 {
-    let left = Boxed::new(alloc, left)?;
-    let right = Boxed::new(alloc, right)?;
     phrase_at(alloc, token, RawTermKind::Binary(op, left, right))
 }
 
@@ -88,11 +91,10 @@ pub fn unary_at<'t>(
     alloc: Global,
     token: &'t Lexeme,
     op: UnaryOp,
-    operand: RawTerm,
+    operand: Boxed<RawTerm>,
 ) -> Result<Phrase<'t>, AllocError>
     ensures { IfOk result (λ p. seen_phrase p ≡ terms.phrase_at (seen token.now) (term_kind.Unary op operand)) }
 {
-    let operand = Boxed::new(alloc, operand)?;
     phrase_at(alloc, token, RawTermKind::Unary(op, operand))
 }
 
@@ -111,8 +113,8 @@ pub fn joined<'t>(
 /// What parentheses group: the kind of a quantifier, which they belong to, or a term.
 #[derive(Drop)]
 pub enum Grouping {
-    Quantified(RawTermKind),
-    Plain(RawTerm),
+    Quantified(Boxed<RawTermKind>),
+    Plain(Boxed<RawTerm>),
 }
 
 /// What the parenthesis groups.
@@ -120,7 +122,7 @@ pub fn grouped(alloc: Global, token: &Lexeme, grouping: Grouping) -> Result<Phra
     ensures { IfOk result (λ p. seen_phrase p ≡ terms.grouped (seen token.now, seen_grouping grouping)) }
 {
     match grouping {
-        Grouping::Quantified(kind) => phrase_at(alloc, token, kind),
+        Grouping::Quantified(kind) => phrase_at(alloc, token, kind.into_inner()),
         Grouping::Plain(term) => Ok(Phrase {
             begins: token,
             term,
@@ -128,56 +130,12 @@ pub fn grouped(alloc: Global, token: &Lexeme, grouping: Grouping) -> Result<Phra
     }
 }
 
-/// The conditional of these parts.
-pub fn conditional_at<'t>(
-    alloc: Global,
-    token: &'t Lexeme,
-    guard: RawTerm,
-    holds: RawTerm,
-    fails: RawTerm,
-) -> Result<Phrase<'t>, AllocError>
-    ensures { IfOk result (λ p. seen_phrase p ≡ terms.phrase_at (seen token.now) (term_kind.Cond guard holds fails)) }
-{
-    let guard = Boxed::new(alloc, guard)?;
-    let holds = Boxed::new(alloc, holds)?;
-    let fails = Boxed::new(alloc, fails)?;
-    phrase_at(alloc, token, RawTermKind::Cond(guard, holds, fails))
-}
-
-/// The `switch` of these parts.
-pub fn switch_at<'t>(
-    alloc: Global,
-    token: &'t Lexeme,
-    subject: RawTerm,
-    cases: Listed<RawCase>,
-    otherwise: RawTerm,
-) -> Result<Phrase<'t>, AllocError>
-    ensures { IfOk result (λ p. seen_phrase p ≡ terms.phrase_at (seen token.now) (term_kind.Switch subject cases otherwise)) }
-{
-    let subject = Boxed::new(alloc, subject)?;
-    let otherwise = Boxed::new(alloc, otherwise)?;
-    phrase_at(alloc, token, RawTermKind::Switch(subject, cases, otherwise))
-}
-
-/// The term that the word begins with these bindings.
-pub fn let_at<'t>(
-    alloc: Global,
-    token: &'t Lexeme,
-    binds: Listed<RawBind>,
-    term: RawTerm,
-) -> Result<Phrase<'t>, AllocError>
-    ensures { IfOk result (λ p. seen_phrase p ≡ terms.phrase_at (seen token.now) (term_kind.Let binds term)) }
-{
-    let term = Boxed::new(alloc, term)?;
-    phrase_at(alloc, token, RawTermKind::Let(binds, term))
-}
-
 /// `minus` of one operand or two.
 pub fn minus_at<'t>(
     alloc: Global,
     token: &'t Lexeme,
-    left: RawTerm,
-    right: Option<RawTerm>,
+    left: Boxed<RawTerm>,
+    right: Option<Boxed<RawTerm>>,
 ) -> Result<Phrase<'t>, AllocError>
     ensures { IfOk result (λ p. seen_phrase p ≡ terms.named_minus (seen token.now, (left, right))) }
 {
@@ -191,10 +149,9 @@ pub fn quantifier_at(
     alloc: Global,
     quantifier: Quantifier,
     binders: Listed<RawBinder>,
-    guard: RawTerm,
-) -> Result<RawTermKind, AllocError>
+    guard: Boxed<RawTerm>,
+) -> Result<Boxed<RawTermKind>, AllocError>
     ensures { IfOk result (λ k. k ≡ term_kind.Quant quantifier binders guard) }
 {
-    let guard = Boxed::new(alloc, guard)?;
-    Ok(RawTermKind::Quant(quantifier, binders, guard))
+    Boxed::new(alloc, RawTermKind::Quant(quantifier, binders, guard))
 }

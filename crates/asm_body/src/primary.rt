@@ -16,9 +16,7 @@ ghost use Rattle.asm_body.specs.Seen.{seen, all_seen};
 use crate::leaf::leaf;
 use crate::level::Level;
 use crate::lexeme::Lexeme;
-use crate::phrase::{
-    Grouping, Phrase, conditional_at, grouped, let_at, other_or, phrase_at, switch_at,
-};
+use crate::phrase::{Grouping, Phrase, grouped, other_or, phrase_at};
 use crate::reading::{begins, begins_among, enter, expect, expect_among};
 use crate::sorts::{functions, leaves, names};
 use crate::terms::Terms;
@@ -85,7 +83,7 @@ impl<F: Fn(Global, Level, &[Lexeme], usize, bool) -> Result<(Phrase<'_>, &[Lexem
             let (kind, rest) = self.quantifier(tokens, levels)?;
             return Ok((Grouping::Quantified(kind), rest));
         }
-        let (term, rest) = self.term(tokens, levels)?;
+        let (term, rest) = self.boxed_term(tokens, levels)?;
         Ok((Grouping::Plain(term), rest))
     }
 
@@ -117,16 +115,14 @@ impl<F: Fn(Global, Level, &[Lexeme], usize, bool) -> Result<(Phrase<'_>, &[Lexem
         ensures { Gives models (λ x. (seen_phrase x.0, all_seen x.1.now)) result (opened_in levels self.now.script (kind_of class_is.If ∷ []) ConditionalTerm terms.conditional_term (all_seen tokens.now)) }
     {
         let (first, levels, rest) = enter(tokens, Class::If, levels)?;
-        let (guard, rest) = self.term(rest, levels)?;
+        let (guard, rest) = self.boxed_term(rest, levels)?;
         let (_, rest) = expect(rest, Class::Then)?;
-        let (holds, rest) = self.term(rest, levels)?;
+        let (holds, rest) = self.boxed_term(rest, levels)?;
         let (fails, rest) = self.optional_term(Class::Else, rest, levels)?;
         let (_, rest) = expect(rest, Class::EndIf)?;
         let fails = other_or(self.alloc, first, fails)?;
-        Ok((
-            conditional_at(self.alloc, first, guard, holds, fails)?,
-            rest,
-        ))
+        let kind = RawTermKind::Cond(guard, holds, fails);
+        Ok((phrase_at(self.alloc, first, kind)?, rest))
     }
 
     #[tactic(auto, using(crate::proofs::Bodies::switch_term_body), unfolding(asm_tree::specs::Terms::otherwise_term))]
@@ -140,15 +136,13 @@ impl<F: Fn(Global, Level, &[Lexeme], usize, bool) -> Result<(Phrase<'_>, &[Lexem
         ensures { Gives models (λ x. (seen_phrase x.0, all_seen x.1.now)) result (opened_in levels self.now.script (kind_of class_is.Switch ∷ []) SwitchTerm terms.switch_term (all_seen tokens.now)) }
     {
         let (first, levels, rest) = enter(tokens, Class::Switch, levels)?;
-        let (subject, rest) = self.term(rest, levels)?;
+        let (subject, rest) = self.boxed_term(rest, levels)?;
         let (cases, rest) = self.cases(rest, levels)?;
         let (otherwise, rest) = self.optional_term(Class::Otherwise, rest, levels)?;
         let (_, rest) = expect(rest, Class::EndSwitch)?;
         let otherwise = other_or(self.alloc, first, otherwise)?;
-        Ok((
-            switch_at(self.alloc, first, subject, cases, otherwise)?,
-            rest,
-        ))
+        let kind = RawTermKind::Switch(subject, cases, otherwise);
+        Ok((phrase_at(self.alloc, first, kind)?, rest))
     }
 
     #[tactic(auto, using(crate::proofs::Forms::let_body))]
@@ -164,9 +158,10 @@ impl<F: Fn(Global, Level, &[Lexeme], usize, bool) -> Result<(Phrase<'_>, &[Lexem
         let (first, levels, rest) = enter(tokens, Class::Let, levels)?;
         let (binds, rest) = self.binds(rest, levels)?;
         let (_, rest) = expect(rest, Class::In)?;
-        let (term, rest) = self.term(rest, levels)?;
+        let (term, rest) = self.boxed_term(rest, levels)?;
         let (_, rest) = expect(rest, Class::EndLet)?;
-        Ok((let_at(self.alloc, first, binds, term)?, rest))
+        let kind = RawTermKind::Let(binds, term);
+        Ok((phrase_at(self.alloc, first, kind)?, rest))
     }
 
     /// A term with words around it, or in parentheses.

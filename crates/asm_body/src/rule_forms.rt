@@ -1,6 +1,6 @@
 //! Rules, form by form.
 
-ghost use Rattle.std.specs.Prelude.{◌≡◌, ◌<◌, ◌≤◌, [], ◌∷◌, Some, None, Ok};
+ghost use Rattle.std.specs.Prelude.{◌≡◌, ◌<◌, ◌≤◌, [], ◌∷◌, Some, None, Ok, IfOk};
 ghost use Rattle.asm_grammar.specs.Grammar.{Gives, and_then, nothing, both, either, shown};
 ghost use Rattle.asm_grammar.proofs.Loops.{with_front};
 ghost use Rattle.asm_tree.specs.Language.{models, after, Actuals, Choose, Conditional, Forall, Let, Parallel, Sequence, Switch};
@@ -18,25 +18,32 @@ use crate::reading::{begins, begins_among, enter, expect, expect_among};
 use crate::rules::Rules;
 use crate::sorts::functions;
 use crate::starts::begins_term;
-use crate::term_reader::{operand, read_term};
+use crate::term_reader::{boxed_term, operand};
 use crate::terms::Terms;
 use asm_grammar::Stop;
 use asm_list::{Boxed, Listed, Name};
 use asm_tree::class::Class;
 use asm_tree::rule::{RawRule, RawRuleKind};
 use asm_tree::term::RawTerm;
-use std::alloc::Global;
+use std::alloc::{AllocError, Global};
 
 /// The other rule, which is `skip` at the first token where none is written.
-fn skip_or(first: &Lexeme, other: Option<RawRule>) -> RawRule
-    ensures { result ≡ rules.skip_or (seen first.now) other }
+fn skip_or(
+    alloc: Global,
+    first: &Lexeme,
+    other: Option<Boxed<RawRule>>,
+) -> Result<Boxed<RawRule>, AllocError>
+    ensures { IfOk result (λ r. r ≡ rules.skip_or (seen first.now) other) }
 {
     match other {
-        Some(other) => other,
-        None => RawRule {
-            at: first.at,
-            kind: RawRuleKind::Skip,
-        },
+        Some(other) => Ok(other),
+        None => Boxed::new(
+            alloc,
+            RawRule {
+                at: first.at,
+                kind: RawRuleKind::Skip,
+            },
+        ),
     }
 }
 
@@ -60,11 +67,11 @@ impl<R: Fn(Global, &[Lexeme], usize, bool) -> Result<(RawRule, &[Lexeme]), Stop>
         let (function, rest) = expect_among(tokens, functions(self.script))?;
         let (arguments, rest) = terms.arguments(rest, levels)?;
         let (_, rest) = expect(rest, Class::Assign)?;
-        let (value, rest) = read_term(self.alloc, rest, levels, self.script)?;
+        let (value, rest) = boxed_term(self.alloc, rest, levels, self.script)?;
         let name = Name::of(self.alloc, function.text.text())?;
         let rule = RawRule {
             at: function.at,
-            kind: RawRuleKind::Update(name, arguments, value),
+            kind: RawRuleKind::Update(name, arguments, value.into_inner()),
         };
         Ok((rule, rest))
     }
@@ -92,7 +99,7 @@ impl<R: Fn(Global, &[Lexeme], usize, bool) -> Result<(RawRule, &[Lexeme]), Stop>
         Ok((actuals, rest))
     }
 
-    #[tactic(auto, using(crate::proofs::RuleForms::macro_inside), unfolding(asm_tree::specs::Rules::macro_call))]
+    #[tactic(auto, using(crate::proofs::RuleForms::macro_is))]
     fn macro_call<'t>(
         &self,
         tokens: &'t [Lexeme],
@@ -164,17 +171,15 @@ impl<R: Fn(Global, &[Lexeme], usize, bool) -> Result<(RawRule, &[Lexeme]), Stop>
         ensures { Gives models (λ x. (x.0, all_seen x.1.now)) result (opened_in levels self.now.script (kind_of class_is.If ∷ []) Conditional rules.if_rule (all_seen tokens.now)) }
     {
         let (first, levels, rest) = enter(tokens, Class::If, levels)?;
-        let (guard, rest) = read_term(self.alloc, rest, levels, self.script)?;
+        let (guard, rest) = boxed_term(self.alloc, rest, levels, self.script)?;
         let (_, rest) = expect(rest, Class::Then)?;
-        let (holds, rest) = self.rule(rest, levels)?;
+        let (holds, rest) = self.boxed_rule(rest, levels)?;
         let (fails, rest) = self.optional_rule(Class::Else, rest, levels)?;
         let (_, rest) = expect(rest, Class::EndIf)?;
-        let fails = skip_or(first, fails);
-        let holds = Boxed::new(self.alloc, holds)?;
-        let fails = Boxed::new(self.alloc, fails)?;
+        let fails = skip_or(self.alloc, first, fails)?;
         let rule = RawRule {
             at: first.at,
-            kind: RawRuleKind::If(guard, holds, fails),
+            kind: RawRuleKind::If(guard.into_inner(), holds, fails),
         };
         Ok((rule, rest))
     }
@@ -190,15 +195,14 @@ impl<R: Fn(Global, &[Lexeme], usize, bool) -> Result<(RawRule, &[Lexeme]), Stop>
         ensures { Gives models (λ x. (x.0, all_seen x.1.now)) result (opened_in levels self.now.script (kind_of class_is.Switch ∷ []) Switch rules.switch_rule (all_seen tokens.now)) }
     {
         let (first, levels, rest) = enter(tokens, Class::Switch, levels)?;
-        let (subject, rest) = read_term(self.alloc, rest, levels, self.script)?;
+        let (subject, rest) = boxed_term(self.alloc, rest, levels, self.script)?;
         let (cases, rest) = self.cases(rest, levels)?;
         let (otherwise, rest) = self.optional_rule(Class::Otherwise, rest, levels)?;
         let (_, rest) = expect(rest, Class::EndSwitch)?;
-        let otherwise = skip_or(first, otherwise);
-        let otherwise = Boxed::new(self.alloc, otherwise)?;
+        let otherwise = skip_or(self.alloc, first, otherwise)?;
         let rule = RawRule {
             at: first.at,
-            kind: RawRuleKind::Switch(subject, cases, otherwise),
+            kind: RawRuleKind::Switch(subject.into_inner(), cases, otherwise),
         };
         Ok((rule, rest))
     }
@@ -222,9 +226,8 @@ impl<R: Fn(Global, &[Lexeme], usize, bool) -> Result<(RawRule, &[Lexeme]), Stop>
         };
         let (binds, rest) = terms.binds(rest, levels)?;
         let (_, rest) = expect(rest, Class::In)?;
-        let (inner, rest) = self.rule(rest, levels)?;
+        let (inner, rest) = self.boxed_rule(rest, levels)?;
         let (_, rest) = expect(rest, Class::EndLet)?;
-        let inner = Boxed::new(self.alloc, inner)?;
         let rule = RawRule {
             at: first.at,
             kind: RawRuleKind::Let(binds, inner),
@@ -251,12 +254,12 @@ impl<R: Fn(Global, &[Lexeme], usize, bool) -> Result<(RawRule, &[Lexeme]), Stop>
         };
         let (binders, rest) = binders(self.alloc, rest)?;
         let (guard, rest) = terms.optional_term(Class::With, rest, levels)?;
-        let (inner, rest) = self.rule_after(Class::Do, rest, levels)?;
+        let (_, rest) = expect(rest, Class::Do)?;
+        let (inner, rest) = self.boxed_rule(rest, levels)?;
         let guard = guard_or(self.alloc, first, guard)?;
-        let inner = Boxed::new(self.alloc, inner)?;
         let rule = RawRule {
             at: first.at,
-            kind: RawRuleKind::Forall(binders, guard, inner),
+            kind: RawRuleKind::Forall(binders, guard.into_inner(), inner),
         };
         Ok((rule, rest))
     }
@@ -281,15 +284,13 @@ impl<R: Fn(Global, &[Lexeme], usize, bool) -> Result<(RawRule, &[Lexeme]), Stop>
         let (binders, rest) = binders(self.alloc, rest)?;
         let (guard, rest) = terms.optional_term(Class::With, rest, levels)?;
         let (_, rest) = expect(rest, Class::Do)?;
-        let (chosen, rest) = self.rule(rest, levels)?;
+        let (chosen, rest) = self.boxed_rule(rest, levels)?;
         let (none, rest) = self.optional_rule(Class::IfNone, rest, levels)?;
-        let none = skip_or(first, none);
+        let none = skip_or(self.alloc, first, none)?;
         let guard = guard_or(self.alloc, first, guard)?;
-        let chosen = Boxed::new(self.alloc, chosen)?;
-        let none = Boxed::new(self.alloc, none)?;
         let rule = RawRule {
             at: first.at,
-            kind: RawRuleKind::Choose(binders, guard, chosen, none),
+            kind: RawRuleKind::Choose(binders, guard.into_inner(), chosen, none),
         };
         Ok((rule, rest))
     }

@@ -14,9 +14,9 @@ ghost use Rattle.asm_body.specs.Seen.{seen, all_seen};
 use crate::lexeme::Lexeme;
 use crate::reading::{begins, expect};
 use crate::starts::begins_rule;
-use crate::term_reader::read_term;
+use crate::term_reader::boxed_term;
 use asm_grammar::Stop;
-use asm_list::Listed;
+use asm_list::{Boxed, Listed};
 use asm_tree::class::Class;
 use asm_tree::rule::{RawRule, RawRuleCase};
 use std::alloc::Global;
@@ -43,6 +43,20 @@ impl<R: Fn(Global, &[Lexeme], usize, bool) -> Result<(RawRule, &[Lexeme]), Stop>
         (self.rule)(self.alloc, tokens, levels, self.script)
     }
 
+    /// A rule in a box, so that it is let go by one call.
+    pub fn boxed_rule<'t>(
+        &self,
+        tokens: &'t [Lexeme],
+        levels: usize,
+    ) -> Result<(Boxed<RawRule>, &'t [Lexeme]), Stop>
+        requires nests { NestsRules self.now.below self.now.script (R.pre self.now.rule) (R.post self.now.rule) }
+        requires less { levels < self.now.below }
+        ensures { Gives models (λ x. (x.0, all_seen x.1.now)) result (read_in levels self.now.script (rules.rule self.now.script) (all_seen tokens.now)) }
+    {
+        let (rule, rest) = self.rule(tokens, levels)?;
+        Ok((Boxed::new(self.alloc, rule)?, rest))
+    }
+
     /// A rule behind this word.
     pub fn rule_after<'t>(
         &self,
@@ -64,7 +78,7 @@ impl<R: Fn(Global, &[Lexeme], usize, bool) -> Result<(RawRule, &[Lexeme]), Stop>
         word: Class,
         tokens: &'t [Lexeme],
         levels: usize,
-    ) -> Result<(Option<RawRule>, &'t [Lexeme]), Stop>
+    ) -> Result<(Option<Boxed<RawRule>>, &'t [Lexeme]), Stop>
         requires nests { NestsRules self.now.below self.now.script (R.pre self.now.rule) (R.post self.now.rule) }
         requires less { levels < self.now.below }
         ensures { Gives models (λ x. (x.0, all_seen x.1.now)) result (read_in levels self.now.script (either (shown Some (after word (rules.rule self.now.script))) (nothing [] None)) (all_seen tokens.now)) }
@@ -72,7 +86,8 @@ impl<R: Fn(Global, &[Lexeme], usize, bool) -> Result<(RawRule, &[Lexeme]), Stop>
         if !begins(tokens, word) {
             return Ok((None, tokens));
         }
-        let (rule, rest) = self.rule_after(word, tokens, levels)?;
+        let (_, rest) = expect(tokens, word)?;
+        let (rule, rest) = self.boxed_rule(rest, levels)?;
         Ok((Some(rule), rest))
     }
 
@@ -125,8 +140,9 @@ impl<R: Fn(Global, &[Lexeme], usize, bool) -> Result<(RawRule, &[Lexeme]), Stop>
         ensures { Gives models (λ x. (x.0, all_seen x.1.now)) result (read_in levels self.now.script (rules.case_rule self.now.script) (all_seen tokens.now)) }
     {
         let (_, rest) = expect(tokens, Class::Case)?;
-        let (label, rest) = read_term(self.alloc, rest, levels, self.script)?;
+        let (label, rest) = boxed_term(self.alloc, rest, levels, self.script)?;
         let (rule, rest) = self.rule_after(Class::Colon, rest, levels)?;
+        let label = label.into_inner();
         Ok((RawRuleCase { label, rule }, rest))
     }
 

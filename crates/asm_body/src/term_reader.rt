@@ -13,6 +13,7 @@ use crate::lexeme::Lexeme;
 use crate::phrase::Phrase;
 use crate::terms::Terms;
 use asm_grammar::Stop;
+use asm_list::Boxed;
 use asm_tree::term::RawTerm;
 use std::alloc::Global;
 
@@ -43,9 +44,23 @@ pub fn operand(
     }
 }
 
+/// The term at the front, where so many levels of nesting are left, in a box. Where `script` is true, the words of
+/// scenarios are reserved.
+#[tactic(auto, unfolding(asm_tree::specs::Terms::term))]
+pub fn boxed_term(
+    alloc: Global,
+    tokens: &[Lexeme],
+    levels: usize,
+    script: bool,
+) -> Result<(Boxed<RawTerm>, &[Lexeme]), Stop>
+    ensures { Gives models (λ x. (x.0, all_seen x.1.now)) result (read_in levels script (terms.term script) (all_seen tokens.now)) }
+{
+    let (phrase, rest) = operand(alloc, Level::Equivalence, tokens, levels, script)?;
+    Ok((phrase.term, rest))
+}
+
 /// The term at the front, where so many levels of nesting are left. Where `script` is true, the words of scenarios are
 /// reserved.
-#[tactic(auto, unfolding(asm_tree::specs::Terms::term))]
 pub fn read_term(
     alloc: Global,
     tokens: &[Lexeme],
@@ -54,6 +69,6 @@ pub fn read_term(
 ) -> Result<(RawTerm, &[Lexeme]), Stop>
     ensures { Gives models (λ x. (x.0, all_seen x.1.now)) result (read_in levels script (terms.term script) (all_seen tokens.now)) }
 {
-    let (phrase, rest) = operand(alloc, Level::Equivalence, tokens, levels, script)?;
-    Ok((phrase.term, rest))
+    let (term, rest) = boxed_term(alloc, tokens, levels, script)?;
+    Ok((term.into_inner(), rest))
 }

@@ -18,7 +18,7 @@ use crate::phrase::Phrase;
 use crate::reading::{begins, expect};
 use crate::starts::begins_term;
 use asm_grammar::Stop;
-use asm_list::Listed;
+use asm_list::{Boxed, Listed};
 use asm_tree::class::Class;
 use asm_tree::term::RawTerm;
 use std::alloc::Global;
@@ -59,6 +59,21 @@ impl<F: Fn(Global, Level, &[Lexeme], usize, bool) -> Result<(Phrase<'_>, &[Lexem
         ensures { Gives models (λ x. (x.0, all_seen x.1.now)) result (read_in levels self.now.script (terms.term self.now.script) (all_seen tokens.now)) }
     {
         let (phrase, rest) = self.operand(Level::Equivalence, tokens, levels)?;
+        Ok((phrase.term.into_inner(), rest))
+    }
+
+    /// A term in a box, so that it is let go by one call.
+    #[tactic(auto, unfolding(asm_tree::specs::Terms::term))]
+    pub fn boxed_term<'t>(
+        &self,
+        tokens: &'t [Lexeme],
+        levels: usize,
+    ) -> Result<(Boxed<RawTerm>, &'t [Lexeme]), Stop>
+        requires nests { Nests self.now.below self.now.script (F.pre self.now.operand) (F.post self.now.operand) }
+        requires less { levels < self.now.below }
+        ensures { Gives models (λ x. (x.0, all_seen x.1.now)) result (read_in levels self.now.script (terms.term self.now.script) (all_seen tokens.now)) }
+    {
+        let (phrase, rest) = self.operand(Level::Equivalence, tokens, levels)?;
         Ok((phrase.term, rest))
     }
 
@@ -83,7 +98,7 @@ impl<F: Fn(Global, Level, &[Lexeme], usize, bool) -> Result<(Phrase<'_>, &[Lexem
         word: Class,
         tokens: &'t [Lexeme],
         levels: usize,
-    ) -> Result<(Option<RawTerm>, &'t [Lexeme]), Stop>
+    ) -> Result<(Option<Boxed<RawTerm>>, &'t [Lexeme]), Stop>
         requires nests { Nests self.now.below self.now.script (F.pre self.now.operand) (F.post self.now.operand) }
         requires less { levels < self.now.below }
         ensures { Gives models (λ x. (x.0, all_seen x.1.now)) result (read_in levels self.now.script (either (shown Some (after word (terms.term self.now.script))) (nothing [] None)) (all_seen tokens.now)) }
@@ -91,7 +106,8 @@ impl<F: Fn(Global, Level, &[Lexeme], usize, bool) -> Result<(Phrase<'_>, &[Lexem
         if !begins(tokens, word) {
             return Ok((None, tokens));
         }
-        let (term, rest) = self.term_after(word, tokens, levels)?;
+        let (_, rest) = expect(tokens, word)?;
+        let (term, rest) = self.boxed_term(rest, levels)?;
         Ok((Some(term), rest))
     }
 

@@ -1,5 +1,5 @@
 use Rattle.std.proofs.Common.{◌≡◌, ◌-◌, [], ◌∷◌}
-use Rattle.asm_grammar.specs.Grammar.{many_at, firsts}
+use Rattle.asm_grammar.specs.Grammar.{many_at}
 use Rattle.asm_grammar.proofs.Loops.{with_front}
 use Rattle.asm_tree.specs.Words.{kind_of}
 use Rattle.asm_tree.specs.declared.class.Class.TheVariants.{Case}

@@ -1,8 +1,6 @@
 use Rattle.std.proofs.Common.{◌+◌, ◌-◌, arith, ap, sym, ◌∙◌, length, [], ◌∷◌}
 use Rattle.asm_grammar.specs.Grammar.{firsts}
 use Rattle.asm_grammar.proofs.Loops.{with_front, turn_gives}
-use Rattle.asm_tree.specs.Words.{kind_of}
-use Rattle.asm_tree.specs.declared.class.Class.TheVariants.{Case}
 use Rattle.asm_tree.specs.Language.{models}
 use Rattle.asm_tree.specs.Rules.{rule, more_rules}
 use Rattle.asm_body.specs.Reading.{read_in}

@@ -1,8 +1,6 @@
 use Rattle.std.proofs.Common.{rules, arith, sym, ◌∙◌}
 use Rattle.std.proofs.lemmas.Grind.{common_steps}
-use Rattle.asm_body.specs.Levels.{joined_to, tail}
 use Rattle.asm_body.specs.Phrases.{seen_phrase}
-use Rattle.asm_body.specs.Reading.{read_in}
 use Rattle.asm_body.specs.Seen.{seen, all_seen}
 use Rattle.asm_body.proofs.Sides.{turn_full, turn_stops, turn_gives, turn_ends}
 use Rattle.asm_body.proofs.terms.Terms.chained.Goals as goal

@@ -2,7 +2,7 @@ use Rattle.std.proofs.Common.{◌+◌, ◌-◌, arith, ap, sym, ◌∙◌, lengt
 use Rattle.asm_grammar.proofs.Loops.{with_front, turn_gives}
 use Rattle.asm_tree.specs.Words.{kind_of}
 use Rattle.asm_tree.specs.declared.class.Class.TheVariants.{Case}
-use Rattle.asm_tree.specs.Language.{models, after}
+use Rattle.asm_tree.specs.Language.{models}
 use Rattle.asm_tree.specs.Terms.{case_term, more_case_terms}
 use Rattle.asm_body.specs.Reading.{read_in}
 use Rattle.asm_body.specs.Seen.{all_seen}

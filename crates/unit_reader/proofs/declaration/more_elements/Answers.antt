@@ -1,0 +1,22 @@
+use Rattle.std.proofs.Common.{◌+◌, ◌-◌, arith, ap, sym, ◌∙◌, length, [], ◌∷◌, false}
+use Rattle.asm_grammar.proofs.Loops.{with_front, turn_gives}
+use Rattle.asm_grammar.specs.Grammar.{both, shown, word}
+use Rattle.asm_tree.specs.Words.{kind_of}
+use Rattle.asm_tree.specs.declared.class.Class.TheVariants as class_is
+use Rattle.asm_tree.specs.Language.{models, after, name}
+use Rattle.asm_tree.specs.Language as language
+use Rattle.asm_tree.specs.Units as units
+use Rattle.asm_body.specs.Reading.{read_flat}
+use Rattle.asm_body.specs.Seen.{all_seen}
+use Rattle.asm_body.proofs.Opening.{more_is}
+use Rattle.unit_reader.proofs.declaration.more_elements.Goals as goal
+
+pub items-init : goal.items-init
+unfolding units.more_elements
+items-init c = rw (c.in_ok-push.ensures.ok, c.new-items.ensures) (ap (with_front models (c.args.first ∷ [])) (sym (more_is 0 false (shown (λ p. p.1) (both (word (kind_of class_is.Bar ∷ kind_of class_is.Comma ∷ [])) (name language.elements))) c.args.tokens.now)))
+
+pub items-preserved : goal.items-preserved
+items-preserved c =
+    rw (c.in_ok-push-2.ensures.ok)
+    (turn_gives models (read_flat (shown (λ p. p.1) (both (word (kind_of class_is.Bar ∷ kind_of class_is.Comma ∷ [])) (name language.elements)))) (kind_of class_is.Bar ∷ kind_of class_is.Comma ∷ []) (with_front models (c.args.first ∷ []) (read_flat units.more_elements (all_seen c.args.tokens.now))) (length c.args.tokens.now - c.items._turn) (length c.args.tokens.now - (c.items._turn + 1))
+    c.items.items (all_seen c.items.rest.now) c.items.invariant (omega arith) (sym c.begins_further.ensures ∙ c.if-not-begins_further.false) c.in_ok-item.item (all_seen c.in_ok-item.after.now) c.in_ok-item.ensures)

@@ -1,0 +1,14 @@
+use Rattle.std.proofs.Common.{◌≡◌, ◌-◌, [], ◌∷◌}
+use Rattle.asm_grammar.proofs.Loops.{with_front}
+use Rattle.asm_grammar.specs.Grammar.{many_at}
+use Rattle.asm_tree.specs.Words.{kind_of}
+use Rattle.asm_tree.specs.declared.class.Class.TheVariants as class_is
+use Rattle.asm_tree.specs.Language.{models, after, name}
+use Rattle.asm_tree.specs.Language as language
+use Rattle.asm_tree.specs.Units as units
+use Rattle.asm_body.specs.Reading.{read_flat}
+use Rattle.asm_body.specs.Seen.{all_seen}
+use Rattle.unit_reader.proofs.header.more_words.Given as goal
+
+abbrev pub invariant-items : goal.invariant-items
+invariant-items l = with_front models l.items (many_at models (read_flat (after class_is.Comma (name language.words))) (kind_of class_is.Comma ∷ []) (l._turn-end - l._turn) (all_seen l.rest)) ≡ with_front models (l.fn.first ∷ []) (read_flat units.more_words (all_seen l.tokens))

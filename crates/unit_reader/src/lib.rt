@@ -1,0 +1,11 @@
+//! Reads the tokens of a model's file into its tree.
+#![tactic(auto)]
+
+mod declaration;
+mod definition;
+mod domain;
+mod file;
+mod header;
+mod path;
+
+pub use file::unit_from;

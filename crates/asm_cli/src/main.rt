@@ -3,7 +3,7 @@
 
 mod command;
 mod exit;
-mod model;
+mod fault;
 mod run;
 mod say;
 #[cfg(test)]

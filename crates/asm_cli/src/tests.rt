@@ -129,11 +129,15 @@ const WORDS: [(&[&str], u8, &str); 9] = [
         "asmeta: bad arguments\n",
     ),
     (&["check", "t.asm"], 2, "asmeta: bad arguments\n"),
-    (&["run", "./a//../t.asm"], 3, "t.asm: not built yet\n"),
+    (
+        &["run", "./a//../t.asm"],
+        3,
+        "t.asm:1:1: syntax error\n",
+    ),
     (
         &["run", "t.asm", "--steps", "100000"],
         3,
-        "t.asm: not built yet\n",
+        "t.asm:1:1: syntax error\n",
     ),
     (&["run", "sub/../../u.asm"], 3, "../u.asm: no such file\n"),
 ];
@@ -145,6 +149,33 @@ fn each_command_line_has_its_answer(rt: HostRuntime) -> Result<(), Fail> {
         let (exit, sink) = run(alloc, "", texts)?;
         assert_eq!(rt; exit, Exit::Code(code), "{texts:?}");
         assert_eq!(rt; sink.bytes(), printed.as_bytes(), "{texts:?}");
+    }
+    Ok(())
+}
+
+/// A file that has a fault, or is no Boolean model, and its line.
+const FAULTS: [(&str, &str); 9] = [
+    ("asm t import u signature: definitions:", "u.asm: no such file\n"),
+    ("asm t import t signature: definitions:", "t.asm: import cycle\n"),
+    ("asm t\n  #", "t.asm:2:3: unexpected byte\n"),
+    ("asm t /* x", "t.asm:1:7: comment not closed\n"),
+    ("asm t 2147483649", "t.asm:1:7: number too big\n"),
+    ("asm t", "t.asm:1:6: syntax error\n"),
+    ("asm t\nwhile", "t.asm:2:1: not supported: while\n"),
+    ("module t signature: definitions:", "t.asm: not built yet\n"),
+    (
+        "asm t import StandardLibrary signature: definitions: main rule r_Main = skip default init s0:",
+        "t.asm: not built yet\n",
+    ),
+];
+
+#[test]
+fn each_fault_of_a_file_has_its_line(rt: HostRuntime) -> Result<(), Fail> {
+    let alloc = rt.alloc();
+    for (held, printed) in FAULTS {
+        let (exit, sink) = run(alloc, held, &["run", "t.asm"])?;
+        assert_eq!(rt; exit, Exit::Code(3), "{held}");
+        assert_eq!(rt; sink.bytes(), printed.as_bytes(), "{held}");
     }
     Ok(())
 }

@@ -2,3 +2,4 @@ pub mod Faults
 pub mod Outcomes
 pub mod Sources
 pub mod Verdicts
+pub mod Enough

@@ -11,6 +11,6 @@ mod tests;
 
 pub use error::LoadError;
 pub use import::{import_name, reads_no_file};
-pub use laws::parsed_is_spelled;
+pub use laws::{levels_suffice, parsed_is_spelled};
 pub use one::load_one;
 pub use path::normalised;

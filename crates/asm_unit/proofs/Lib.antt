@@ -4,3 +4,4 @@ pub mod Sources
 pub mod Ending
 pub mod Verdicts
 pub mod Lexemes
+pub mod Enough

@@ -17,7 +17,7 @@ use Rattle.asm_cli.specs.declared.exit.Exit.{Exit}
 use Rattle.asm_cli.specs.declared.exit.Exit.TheVariants.{Code, ReadFault, WriteFault, Memory}
 use Rattle.asm_cli.specs.Exit.{OnCode, OnFault}
 use Rattle.asm_cli.specs.Fault.{fault_text}
-use Rattle.asm_cli.specs.Answer.{Saying, Says, Prints, PrintsPart, end_code, says_machine, says_end, says_loaded, machine_of_units}
+use Rattle.asm_cli.specs.Answer.{Saying, Says, Prints, PrintsPart, end_code, says_machine, says_units, says_outcome, machine_of_units}
 use Rattle.asm_cli.specs.Reply.{Replies, Refuses, EndsQuiet}
 use Rattle.asm_cli.proofs.Replying.{on_code}
 
@@ -31,43 +31,40 @@ pub machine_not_two : (name : List ℕ) (steps : ℕ) (sources : List Source) (o
 machine_not_two name steps sources None t k s two = let c = s.code_is in absurd (omega arith)
 machine_not_two name steps sources (Some machine) t k s two = end_not_two (run_of machine sources steps).end k s.code_is two
 
-module _ {K : Type 0} (written : K → Option (List ℕ)) (faults : K → ℕ) (old new : K) (name : List ℕ) (steps : ℕ) (o : Outcome (List LoadedUnit)) (now : List Source) (exit : Exit) where
+module _ {A : Type 0} {K : Type 0} (written : K → Option (List ℕ)) (faults : K → ℕ) (old new : K) (says : List Source → A → Saying) (o : Outcome A) (now : List Source) (exit : Exit) where
   -- ---- all files were read
 
-  module _ (units : List LoadedUnit) where
-    pub ok_answer : o ≡ ended now units → Replies written faults old new (says_machine name steps now (machine_of_units units)) exit → OnCode exit (Prints (written old) (written new) (says_loaded name steps o))
-    ok_answer is r = subst (λ (p : Outcome (List LoadedUnit)). OnCode exit (Prints (written old) (written new) (says_loaded name steps p))) (sym is) r.answer
+  module _ (value : A) where
+    pub ok_answer : o ≡ ended now value → Replies written faults old new (says now value) exit → OnCode exit (Prints (written old) (written new) (says_outcome says o))
+    ok_answer is r = subst (λ (p : Outcome A). OnCode exit (Prints (written old) (written new) (says_outcome says p))) (sym is) r.answer
 
-    pub ok_prefix : o ≡ ended now units → Replies written faults old new (says_machine name steps now (machine_of_units units)) exit → OnFault exit (PrintsPart (written old) (written new) (says_loaded name steps o))
-    ok_prefix is r = subst (λ (p : Outcome (List LoadedUnit)). OnFault exit (PrintsPart (written old) (written new) (says_loaded name steps p))) (sym is) r.prefix
-
-    pub ok_words : Replies written faults old new (says_machine name steps now (machine_of_units units)) exit → OnCode exit (λ k. k ≢ 2)
-    ok_words r = on_code exit (λ k. k ≢ 2) r.answer (λ k p. machine_not_two name steps now (machine_of_units units) p.text k p.is_said)
+    pub ok_prefix : o ≡ ended now value → Replies written faults old new (says now value) exit → OnFault exit (PrintsPart (written old) (written new) (says_outcome says o))
+    ok_prefix is r = subst (λ (p : Outcome A). OnFault exit (PrintsPart (written old) (written new) (says_outcome says p))) (sym is) r.prefix
 
   -- ---- a file has a fault
 
-  line_answer : (e : LoadError) → o ≡ refused now e → Replies written faults old new (Says (fault_text now e) 3) exit → OnCode exit (Prints (written old) (written new) (says_loaded name steps o))
-  line_answer e is r = subst (λ (p : Outcome (List LoadedUnit)). OnCode exit (Prints (written old) (written new) (says_loaded name steps p))) (sym is) r.answer
+  line_answer : (e : LoadError) → o ≡ refused now e → Replies written faults old new (Says (fault_text now e) 3) exit → OnCode exit (Prints (written old) (written new) (says_outcome says o))
+  line_answer e is r = subst (λ (p : Outcome A). OnCode exit (Prints (written old) (written new) (says_outcome says p))) (sym is) r.answer
 
-  line_prefix : (e : LoadError) → o ≡ refused now e → Replies written faults old new (Says (fault_text now e) 3) exit → OnFault exit (PrintsPart (written old) (written new) (says_loaded name steps o))
-  line_prefix e is r = subst (λ (p : Outcome (List LoadedUnit)). OnFault exit (PrintsPart (written old) (written new) (says_loaded name steps p))) (sym is) r.prefix
+  line_prefix : (e : LoadError) → o ≡ refused now e → Replies written faults old new (Says (fault_text now e) 3) exit → OnFault exit (PrintsPart (written old) (written new) (says_outcome says o))
+  line_prefix e is r = subst (λ (p : Outcome A). OnFault exit (PrintsPart (written old) (written new) (says_outcome says p))) (sym is) r.prefix
 
-  quiet_answer : (end : Exit) → OnCode end (Prints (written old) (written new) (says_loaded name steps o)) → EndsQuiet written faults old new end exit → OnCode exit (Prints (written old) (written new) (says_loaded name steps o))
-  quiet_answer end none q = subst (λ (x : Exit). OnCode x (Prints (written old) (written new) (says_loaded name steps o))) (sym q.exit_is) none
+  quiet_answer : (end : Exit) → OnCode end (Prints (written old) (written new) (says_outcome says o)) → EndsQuiet written faults old new end exit → OnCode exit (Prints (written old) (written new) (says_outcome says o))
+  quiet_answer end none q = subst (λ (x : Exit). OnCode x (Prints (written old) (written new) (says_outcome says o))) (sym q.exit_is) none
 
-  nothing : new ≡ old → PrintsPart (written old) (written new) (says_loaded name steps o)
+  nothing : new ≡ old → PrintsPart (written old) (written new) (says_outcome says o)
   nothing same = record { text = []; adds = subst (λ (x : K). AddsPart (written old) (written x) []) (sym same) (part_of_none (written old) []); is_said = inl refl }
 
-  quiet_prefix : (end : Exit) → EndsQuiet written faults old new end exit → OnFault exit (PrintsPart (written old) (written new) (says_loaded name steps o))
+  quiet_prefix : (end : Exit) → EndsQuiet written faults old new end exit → OnFault exit (PrintsPart (written old) (written new) (says_outcome says o))
   quiet_prefix end q = go exit
     where
-      go : (x : Exit) → OnFault x (PrintsPart (written old) (written new) (says_loaded name steps o))
+      go : (x : Exit) → OnFault x (PrintsPart (written old) (written new) (says_outcome says o))
       go (Code k) = tt
       go ReadFault = nothing q.same
       go WriteFault = nothing q.same
       go Memory = nothing q.same
 
-  pub err_answer : (e : LoadError) → Fails o now e → Refuses written faults old new now e exit → OnCode exit (Prints (written old) (written new) (says_loaded name steps o))
+  pub err_answer : (e : LoadError) → Fails o now e → Refuses written faults old new now e exit → OnCode exit (Prints (written old) (written new) (says_outcome says o))
   err_answer (Absent n) f r = line_answer (Absent n) f r
   err_answer (TooLong n) f r = line_answer (TooLong n) f r
   err_answer (Read n) f r = quiet_answer ReadFault tt r
@@ -77,7 +74,7 @@ module _ {K : Type 0} (written : K → Option (List ℕ)) (faults : K → ℕ) (
   err_answer (TooManyFiles n) f r = line_answer (TooManyFiles n) f r
   err_answer load.Memory f r = quiet_answer Memory tt r
 
-  pub err_prefix : (e : LoadError) → Fails o now e → Refuses written faults old new now e exit → OnFault exit (PrintsPart (written old) (written new) (says_loaded name steps o))
+  pub err_prefix : (e : LoadError) → Fails o now e → Refuses written faults old new now e exit → OnFault exit (PrintsPart (written old) (written new) (says_outcome says o))
   err_prefix (Absent n) f r = line_prefix (Absent n) f r
   err_prefix (TooLong n) f r = line_prefix (TooLong n) f r
   err_prefix (Read n) f r = quiet_prefix ReadFault r
@@ -137,6 +134,10 @@ module _ {K : Type 0} (written : K → Option (List ℕ)) (faults : K → ℕ) (
   err_later (TooManyFiles n) r = r.later
   err_later load.Memory r = same_later r.same
 
+module _ {K : Type 0} (written : K → Option (List ℕ)) (faults : K → ℕ) (old new : K) (name : List ℕ) (steps : ℕ) (now : List Source) (exit : Exit) where
+  pub ok_words : (units : List LoadedUnit) → Replies written faults old new (says_units name steps now units) exit → OnCode exit (λ k. k ≢ 2)
+  ok_words units r = on_code exit (λ k. k ≢ 2) r.answer (λ k p. machine_not_two name steps now (machine_of_units units) p.text k p.is_said)
+
 -- ---- what was read
 
 pub all_short : (before now : List Source) → before ≡ [] → AddsFiles most_bytes before now → All (λ (source : Source). length source.text ≤ most_bytes) now
@@ -145,8 +146,8 @@ all_short before now none adds = subst (λ (l : List Source). All (λ (source : 
 pub units_of : (sources : List Source) (units listed : List LoadedUnit) → listed ≡ units → AreUnits sources units → AreUnits sources listed
 units_of sources units listed same are = subst (λ (us : List LoadedUnit). AreUnits sources us) (sym same) are
 
-pub fails_from : (files : Files) (model : List ℕ) (before now : List Source) (e : LoadError) → before ≡ [] → Fails (units_in files model before) now e → Fails (units_in files model []) now e
-fails_from files model before now e none f = subst (λ (s : List Source). Fails (units_in files model s) now e) none f
+pub fails_from : {A : Type 0} → (of : List Source → Outcome A) (before now : List Source) (e : LoadError) → before ≡ [] → Fails (of before) now e → Fails (of []) now e
+fails_from of before now e none f = subst (λ (s : List Source). Fails (of s) now e) none f
 
-pub ended_from : (files : Files) (model : List ℕ) (before now : List Source) (units listed : List LoadedUnit) → before ≡ [] → listed ≡ units → units_in files model before ≡ ended now units → units_in files model [] ≡ ended now listed
-ended_from files model before now units listed none same e = ap (λ (s : List Source). units_in files model s) (sym none) ∙ e ∙ ap (λ (us : List LoadedUnit). ended now us) (sym same)
+pub ended_from : {A : Type 0} → (of : List Source → Outcome A) (before now : List Source) (value given : A) → before ≡ [] → given ≡ value → of before ≡ ended now value → of [] ≡ ended now given
+ended_from of before now value given none same e = ap of (sym none) ∙ e ∙ ap (λ v. ended now v) (sym same)

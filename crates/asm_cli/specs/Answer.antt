@@ -3,6 +3,8 @@ use Rattle.std.specs.Prelude.{◌≡◌, ◌⊎◌, ℕ, List, [], ◌∷◌, �
 use Rattle.asm_io.specs.Outside.{Files, Adds, AddsPart}
 use Rattle.asm_io.specs.declared.sources.Source.{Source}
 use Rattle.asm_tree.specs.declared.unit.LoadedUnit.{LoadedUnit}
+use Rattle.asm_tree.specs.declared.unit.RawUnit.{RawUnit}
+use Rattle.asm_canonical.specs.Units.{canonical}
 use Rattle.boolean_fire.specs.declared.stop.Stop.{Stop}
 use Rattle.boolean_run.specs.declared.machine.Machine.{Machine}
 use Rattle.boolean_run.specs.declared.run.RunEnd.{RunEnd}
@@ -11,9 +13,9 @@ use Rattle.boolean_run.specs.Machine.{machine_of}
 use Rattle.boolean_run.specs.Printed.{run_of}
 use Rattle.asm_unit.specs.Path.{normalised}
 use Rattle.asm_unit.specs.declared.error.LoadError.{LoadError}
-use Rattle.asm_unit.specs.Loading.{Outcome, units_in}
+use Rattle.asm_unit.specs.Loading.{Outcome, units_in, unit_in}
 use Rattle.asm_cli.specs.Fault.{fault_text}
-use Rattle.asm_cli.specs.Words.{Asked, asked_of}
+use Rattle.asm_cli.specs.Words.{Asked, ToRun, ToFormat, asked_of}
 
 -- ---- models
 
@@ -22,10 +24,23 @@ abbrev pub machine_of_units : List LoadedUnit → Option Machine
 machine_of_units (loaded ∷ []) = machine_of loaded.unit
 machine_of_units _ = None
 
+-- what a model's files come to
+abbrev pub loaded : Files → List ℕ → Outcome (List LoadedUnit)
+loaded files model = units_in files model []
+
+-- what a file comes to without its imports
+abbrev pub alone : Files → List ℕ → Outcome RawUnit
+alone files model = unit_in files model []
+
 -- ---- what is printed, as relations between a text and a code
 
 abbrev pub Saying : Type 1
 Saying = List ℕ → ℕ → Type 0
+
+-- exactly these bytes, with this code
+pub record SaysBytes (bytes : List ℕ) (meant : ℕ) (text : List ℕ) (code : ℕ) : Type 0 where
+  pub text_is : text ≡ bytes
+  pub code_is : code ≡ meant
 
 -- this line, with this code
 pub record Says (line : List ℕ) (meant : ℕ) (text : List ℕ) (code : ℕ) : Type 0 where
@@ -47,22 +62,31 @@ abbrev pub says_machine : List ℕ → ℕ → List Source → Option Machine �
 says_machine name steps sources None text code = Says (name ++ codes ": not built yet") 3 text code
 says_machine name steps sources (Some machine) text code = SaysRun machine sources steps text code
 
--- what is printed of the units of a model, or of the first fault of a file
-abbrev pub says_end : List ℕ → ℕ → List Source → Result (List LoadedUnit) LoadError → Saying
-says_end name steps sources (Ok units) text code = says_machine name steps sources (machine_of_units units) text code
-says_end name steps sources (Err fault) text code = Says (fault_text sources fault) 3 text code
+-- what is printed of the units of a model in a run of so many steps
+abbrev pub says_units : List ℕ → ℕ → List Source → List LoadedUnit → Saying
+says_units name steps sources units text code = says_machine name steps sources (machine_of_units units) text code
 
--- what is printed where these files were read and this came of it
-abbrev pub says_loaded : List ℕ → ℕ → Outcome (List LoadedUnit) → Saying
-says_loaded name steps o text code = says_end name steps o.sources o.end text code
+-- the canonical text of a unit
+abbrev pub says_canonical : List Source → RawUnit → Saying
+says_canonical sources unit text code = SaysBytes (canonical unit) 0 text code
 
--- what a model's files come to
-abbrev pub loaded : Files → List ℕ → Outcome (List LoadedUnit)
-loaded files model = units_in files model []
+-- what `says` says of these files and what they are, or the line of the first fault of a file
+abbrev pub says_end : {A : Type 0} → (List Source → A → Saying) → List Source → Result A LoadError → Saying
+says_end says sources (Ok value) text code = says sources value text code
+says_end says sources (Err fault) text code = Says (fault_text sources fault) 3 text code
+
+-- the same where these files were read and this came of it
+abbrev pub says_outcome : {A : Type 0} → (List Source → A → Saying) → Outcome A → Saying
+says_outcome says o text code = says_end says o.sources o.end text code
+
+-- what a command prints over these files: the run of a model, or the canonical text of one file
+abbrev pub says_task : Asked → Files → Saying
+says_task (ToRun model steps) files text code = says_outcome (says_units (normalised model) steps) (loaded files model) text code
+says_task (ToFormat model) files text code = says_outcome says_canonical (alone files model) text code
 
 abbrev pub says_asked : Option Asked → Files → Saying
 says_asked None files text code = Says (codes "asmeta: bad arguments") 2 text code
-says_asked (Some asked) files text code = says_loaded (normalised asked.model) asked.steps (loaded files asked.model) text code
+says_asked (Some asked) files text code = says_task asked files text code
 
 -- what these words print over these files, and with which code
 abbrev pub answer : List (List ℕ) → Files → Saying
@@ -74,19 +98,25 @@ OneAnswer = (words : List (List ℕ)) (files : Files) (t u : List ℕ) (k l : �
 
 -- ---- causes of the codes
 
--- a file of the model that the words name has a fault
+-- this is the first fault of a file that the command reads
+abbrev pub IsFirstFault : Asked → Files → LoadError → Type 0
+IsFirstFault (ToRun model steps) files fault = (loaded files model).end ≡ Err fault
+IsFirstFault (ToFormat model) files fault = (alone files model).end ≡ Err fault
+
+-- a file that the command reads has a fault
 pub record IsRefused (words : List (List ℕ)) (files : Files) : Type 0 where
   pub asked : Asked
   pub fault : LoadError
   pub asked_is : asked_of words ≡ Some asked
-  pub fault_is : (loaded files asked.model).end ≡ Err fault
+  pub is_first : IsFirstFault asked files fault
 
--- its units are no Boolean model
+-- the units of a model to run are no Boolean model
 pub record IsNotBuilt (words : List (List ℕ)) (files : Files) : Type 0 where
-  pub asked : Asked
+  pub model : List ℕ
+  pub steps : ℕ
   pub units : List LoadedUnit
-  pub asked_is : asked_of words ≡ Some asked
-  pub units_are : (loaded files asked.model).end ≡ Ok units
+  pub asked_is : asked_of words ≡ Some (ToRun model steps)
+  pub units_are : (loaded files model).end ≡ Ok units
   pub no_machine : machine_of_units units ≡ None
 
 abbrev pub HasFileFault : List (List ℕ) → Files → Type 0
@@ -94,17 +124,25 @@ HasFileFault words files = IsRefused words files ⊎ IsNotBuilt words files
 
 -- the run of the model that the words name ends so
 pub record EndsIn (words : List (List ℕ)) (files : Files) (end : RunEnd) : Type 0 where
-  pub asked : Asked
+  pub model : List ℕ
+  pub steps : ℕ
   pub units : List LoadedUnit
   pub machine : Machine
-  pub asked_is : asked_of words ≡ Some asked
-  pub units_are : (loaded files asked.model).end ≡ Ok units
+  pub asked_is : asked_of words ≡ Some (ToRun model steps)
+  pub units_are : (loaded files model).end ≡ Ok units
   pub machine_is : machine_of_units units ≡ Some machine
-  pub end_is : (run_of machine (loaded files asked.model).sources asked.steps).end ≡ end
+  pub end_is : (run_of machine (loaded files model).sources steps).end ≡ end
 
--- the run makes all its steps
+-- the file to format is a unit
+pub record IsFormatted (words : List (List ℕ)) (files : Files) : Type 0 where
+  pub model : List ℕ
+  pub unit : RawUnit
+  pub asked_is : asked_of words ≡ Some (ToFormat model)
+  pub unit_is : (alone files model).end ≡ Ok unit
+
+-- the run makes all its steps, or the file to format is a unit
 abbrev pub IsDone : List (List ℕ) → Files → Type 0
-IsDone words files = EndsIn words files Done
+IsDone words files = EndsIn words files Done ⊎ IsFormatted words files
 
 -- the run ends in a stop
 abbrev pub IsStopped : List (List ℕ) → Files → Type 0

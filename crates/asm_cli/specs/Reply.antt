@@ -19,11 +19,6 @@ pub record Replies {K : Type 0} (written : K → Option (List ℕ)) (faults : K 
   pub write_fault : exit ≡ WriteFault → Rose (faults old) (faults new)
   pub later : faults old ≤ faults new
 
--- exactly these bytes, with this code
-pub record SaysBytes (bytes : List ℕ) (meant : ℕ) (text : List ℕ) (code : ℕ) : Type 0 where
-  pub text_is : text ≡ bytes
-  pub code_is : code ≡ meant
-
 -- It ends so and does nothing.
 pub record EndsQuiet {K : Type 0} (written : K → Option (List ℕ)) (faults : K → ℕ) (old new : K) (end exit : Exit) : Type 0 where
   pub exit_is : exit ≡ end

@@ -6,7 +6,7 @@ ghost use Rattle.asm_unit.specs.Path.{normalised};
 ghost use Rattle.asm_unit.specs.Loading.{most_bytes, AreUnits};
 ghost use Rattle.boolean_run.specs.Resolved.{Resolves};
 ghost use Rattle.asm_cli.specs.Exit.{OnCode, OnFault};
-ghost use Rattle.asm_cli.specs.Answer.{Prints, PrintsPart, SaysRun, machine_of_units, says_machine, says_loaded, loaded};
+ghost use Rattle.asm_cli.specs.Answer.{Prints, PrintsPart, SaysRun, machine_of_units, says_machine, says_units, says_outcome, loaded};
 ghost use Rattle.asm_cli.specs.Reply.{Replies};
 
 use crate::exit::Exit;
@@ -27,8 +27,8 @@ pub fn run_model<S: Shelf, K: Sink>(
     shelf: &mut S,
     sink: &mut K,
 ) -> Exit
-    ensures answer { Told (S.files shelf.old) (λ files. OnCode result (Prints (K.written sink.old) (K.written sink.new) (says_loaded (normalised model.now) steps (loaded files model.now)))) }
-    ensures prefix { Told (S.files shelf.old) (λ files. OnFault result (PrintsPart (K.written sink.old) (K.written sink.new) (says_loaded (normalised model.now) steps (loaded files model.now)))) }
+    ensures answer { Told (S.files shelf.old) (λ files. OnCode result (Prints (K.written sink.old) (K.written sink.new) (says_outcome (says_units (normalised model.now) steps) (loaded files model.now)))) }
+    ensures prefix { Told (S.files shelf.old) (λ files. OnFault result (PrintsPart (K.written sink.old) (K.written sink.new) (says_outcome (says_units (normalised model.now) steps) (loaded files model.now)))) }
     ensures good_words { OnCode result (λ code. code ≢ 2) }
     ensures read_fault { result ≡ Exit.ReadFault → Rose (S.faults shelf.old) (S.faults shelf.new) }
     ensures write_fault { result ≡ Exit.WriteFault → Rose (K.faults sink.old) (K.faults sink.new) }

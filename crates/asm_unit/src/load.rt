@@ -47,6 +47,32 @@ fn read_unit<S: Shelf>(
     unit
 }
 
+/// Reads one file of a model and adds it to the sources. What it imports isn't read.
+pub fn load_unit<S: Shelf>(
+    alloc: Global,
+    shelf: &mut S,
+    name: &str,
+    sources: &mut Sources,
+) -> Result<Boxed<RawUnit>, LoadError>
+    requires few { length sources.old < 2 ^ 31 }
+
+    // The unit of the file, or its fault.
+    ensures told { Told (S.files shelf.old) (λ files. Follows (loading.unit_in files name.now sources.old) sources.new result) }
+    ensures failed { IfErr result (λ e. OnRead e (Rose (S.faults shelf.old) (S.faults shelf.new))) }
+
+    // What the sources show.
+    ensures added { AddsFiles loading.most_bytes sources.old sources.new }
+    ensures read { IfOk result (λ unit. IsJudged spelled.tree_of sources.new (length sources.old) (Ok unit)) }
+    ensures fault { IfErr result (IsFault spelled.tree_of sources.new) }
+
+    // Of the shelf.
+    ensures files { S.files shelf.new ≡ S.files shelf.old }
+    ensures later { S.faults shelf.old ≤ S.faults shelf.new }
+{
+    let name = normalised(alloc, name)?;
+    read_unit(alloc, shelf, &name, sources)
+}
+
 /// The place of a name among the sources behind the first ones.
 fn place_of(sources: &[Source], first: usize, name: &str) -> Option<usize>
     requires { first ≤ length sources.now }

@@ -157,11 +157,7 @@ const WORDS: [(&[&str], u8, &str); 14] = [
     ),
     (&["format", "a/../t.asm"], 3, "t.asm:1:1: syntax error\n"),
     (&["format", "./u.asm"], 3, "u.asm: no such file\n"),
-    (
-        &["run", "./a//../t.asm"],
-        3,
-        "t.asm:1:1: syntax error\n",
-    ),
+    (&["run", "./a//../t.asm"], 3, "t.asm:1:1: syntax error\n"),
     (
         &["run", "t.asm", "--steps", "100000"],
         3,
@@ -183,9 +179,18 @@ fn each_command_line_has_its_answer(rt: HostRuntime) -> Result<(), Fail> {
 
 /// A file that has a fault, or is no Boolean model, and the line of its run.
 const FAULTS: [(&str, &str); 26] = [
-    ("asm t import u signature: definitions:", "u.asm: no such file\n"),
-    ("asm t import t signature: definitions:", "t.asm: import cycle\n"),
-    ("asm t import a/../t.asm signature: definitions:", "t.asm: import cycle\n"),
+    (
+        "asm t import u signature: definitions:",
+        "u.asm: no such file\n",
+    ),
+    (
+        "asm t import t signature: definitions:",
+        "t.asm: import cycle\n",
+    ),
+    (
+        "asm t import a/../t.asm signature: definitions:",
+        "t.asm: import cycle\n",
+    ),
     ("asm t\n  #", "t.asm:2:3: unexpected byte\n"),
     ("skip \u{e4}", "t.asm:1:6: unexpected byte\n"),
     ("asm t !", "t.asm:1:7: unexpected byte\n"),
@@ -271,7 +276,8 @@ const CUTS: [(usize, usize); 17] = [
 #[test]
 fn each_cut_text_has_its_line(rt: HostRuntime) -> Result<(), Fail> {
     let alloc = rt.alloc();
-    let whole = "asm t signature: controlled x : Boolean definitions: main rule r_M = skip default init s0:";
+    let whole =
+        "asm t signature: controlled x : Boolean definitions: main rule r_M = skip default init s0:";
     for (count, column) in CUTS {
         let (exit, sink) = run(alloc, &whole[..count], &["run", "t.asm"])?;
         let printed = if column == 0 {

@@ -7,7 +7,6 @@ use Rattle.asm_tree.specs.declared.unit.LoadedUnit.{LoadedUnit}
 use Rattle.asm_tree.specs.declared.unit.RawUnit.{RawUnit}
 use Rattle.asm_canonical.specs.Units.{canonical}
 use Rattle.asm_unit.specs.declared.error.LoadError.{LoadError}
-use Rattle.boolean_fire.specs.declared.stop.Stop.{Stop}
 use Rattle.boolean_run.specs.declared.machine.Machine.{Machine}
 use Rattle.boolean_run.specs.declared.run.RunEnd.{RunEnd}
 use Rattle.boolean_run.specs.declared.run.RunEnd.TheVariants.{Done, Stopped}
@@ -15,7 +14,7 @@ use Rattle.boolean_run.specs.Printed.{run_of}
 use Rattle.asm_unit.specs.Path.{normalised}
 use Rattle.asm_cli.specs.Fault.{fault_text}
 use Rattle.asm_cli.specs.Words.{Asked, ToRun, ToFormat, asked_of}
-use Rattle.asm_cli.specs.Answer.{Saying, Says, SaysBytes, SaysRun, says_machine, says_units, says_canonical, says_end, says_task, says_asked, answer, loaded, alone, machine_of_units, end_code, OneAnswer, IsFirstFault, IsRefused, IsNotBuilt, HasFileFault, EndsIn, IsFormatted, IsDone, IsStopped}
+use Rattle.asm_cli.specs.Answer.{Says, says_machine, says_units, says_canonical, says_end, says_task, says_asked, answer, loaded, alone, machine_of_units, end_code, OneAnswer, IsFirstFault, HasFileFault, EndsIn, IsDone, IsStopped}
 
 -- ---- there is one answer
 

@@ -1,14 +1,14 @@
 -- What is printed of a model's files, by what became of loading them.
-use Rattle.std.proofs.Common.{◌≡◌, ◌≢◌, ◌∙◌, ℕ, ◌≤◌, List, [], ◌∷◌, ◌++◌, length, Option, Some, None, Result, Ok, Err, refl, ap, sym, subst, inl, inr, arith}
-use Rattle.std.specs.Prelude.{All, codes}
-use Rattle.asm_io.specs.Outside.{Files, Rose, AddsPart}
+use Rattle.std.proofs.Common.{◌≡◌, ◌≢◌, ◌∙◌, ℕ, ◌≤◌, List, [], ◌++◌, length, Option, Some, None, refl, ap, sym, subst, inl, arith}
+use Rattle.std.specs.Prelude.{All}
+use Rattle.asm_io.specs.Outside.{Rose, AddsPart}
 use Rattle.asm_io.proofs.Printing.{part_of_none}
 use Rattle.asm_io.specs.declared.sources.Source.{Source}
 use Rattle.asm_tree.specs.declared.unit.LoadedUnit.{LoadedUnit}
 use Rattle.asm_unit.specs.declared.error.LoadError.{LoadError}
 use Rattle.asm_unit.specs.declared.error.LoadError.TheVariants.{Absent, TooLong, Read, Lex, Parse, ImportCycle, TooManyFiles}
 use Rattle.asm_unit.specs.declared.error.LoadError.TheVariants as load
-use Rattle.asm_unit.specs.Loading.{Outcome, ended, refused, units_in, AddsFiles, AreUnits, most_bytes, Fails, OnRead}
+use Rattle.asm_unit.specs.Loading.{Outcome, ended, refused, AddsFiles, AreUnits, most_bytes, Fails, OnRead}
 use Rattle.boolean_run.specs.declared.machine.Machine.{Machine}
 use Rattle.boolean_run.specs.declared.run.RunEnd.{RunEnd}
 use Rattle.boolean_run.specs.declared.run.RunEnd.TheVariants.{Done, Stopped}

@@ -1,19 +1,18 @@
 -- The machine of a model's units.
-use Rattle.std.proofs.Common.{◌≡◌, ℕ, ◌≤◌, ◌<◌, List, [], ◌∷◌, length, Option, Some, None, Ok, true, false, Bool as Truth, refl, sym, ap, ◌∙◌, arith, zero, suc}
-use Rattle.std.specs.Prelude.{All, if◌then◌else◌, nat_le, ◌&&◌, ◌^◌, option_map, slice_get, unwrap_or}
+use Rattle.std.proofs.Common.{◌≡◌, ℕ, ◌≤◌, ◌<◌, List, [], ◌∷◌, length, Option, Some, None, true, false, Bool as Truth, refl, sym, ap, ◌∙◌, arith}
+use Rattle.std.specs.Prelude.{All, if◌then◌else◌, nat_le, ◌&&◌, ◌^◌, option_map}
 use Rattle.std.proofs.lemmas.List.{length-map}
 use Rattle.std.proofs.lemmas.Bool.Decides.{nat_tests}
 use Rattle.asm_io.specs.declared.sources.Source.{Source}
 use Rattle.asm_io.specs.Spots.{text_of}
 use Rattle.asm_tree.specs.declared.rule.RawRule.{RawRule}
-use Rattle.asm_tree.specs.declared.unit.RawUnit.{RawUnit}
 use Rattle.asm_tree.specs.declared.unit.LoadedUnit.{LoadedUnit}
 use Rattle.asm_unit.specs.Loading.{AreUnits, most_bytes}
 use Rattle.boolean_fire.specs.declared.rule.Rule.{Rule}
 use Rattle.boolean_run.specs.declared.machine.Machine.{Machine}
 use Rattle.boolean_run.specs.declared.plain.Initial.{Initial}
 use Rattle.boolean_run.specs.Plain.{Plain, plain_of, and_then}
-use Rattle.boolean_run.specs.Machine.{machine_of, machine_from, machine_with, is_sound, rule_of, initial_of, most_functions}
+use Rattle.boolean_run.specs.Machine.{machine_from, machine_with, is_sound, rule_of, initial_of, most_functions}
 use Rattle.asm_cli.specs.Answer.{machine_of_units}
 
 same_Some : {A : Type 0} (a b : A) → Some a ≡ Some b → a ≡ b

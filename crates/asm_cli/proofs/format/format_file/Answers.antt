@@ -2,7 +2,7 @@ use Rattle.std.proofs.Common.{List}
 use Rattle.asm_io.specs.declared.sources.Source.{Source}
 use Rattle.asm_unit.specs.Loading.{unit_in}
 use Rattle.asm_cli.specs.Answer.{alone, says_canonical}
-use Rattle.asm_cli.proofs.Loaded.{err_prefix, fails_from, all_short}
+use Rattle.asm_cli.proofs.Loaded.{err_prefix, fails_from}
 use Rattle.asm_cli.proofs.format.format_file.Goals as goal
 
 pub returns-clause-prefix : goal.returns-clause-prefix

@@ -1,6 +1,3 @@
-use Rattle.std.proofs.Common.{Some, sym, ◌∙◌}
-use Rattle.asm_cli.specs.Answer.{machine_of_units, says_machine}
-use Rattle.asm_cli.proofs.Replying.{replies_more}
 use Rattle.asm_cli.proofs.Models.{machine-small, some-listed, first-short}
 use Rattle.asm_cli.proofs.run.run_units.Goals as goal
 

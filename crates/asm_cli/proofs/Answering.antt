@@ -1,153 +1,164 @@
 -- What follows from an answer.
-use Rattle.std.proofs.Common.{◌≡◌, ◌↔◌, ℕ, ◌<◌, ◌≤◌, List, ◌++◌, length, Option, Some, None, Bool as Truth, true, false, nat_lt, refl, sym, ap, ◌∙◌, subst, inl, inr, arith}
-use Rattle.std.specs.Prelude.{MatchBool, codes}
-use Rattle.std.specs.FinMap.{get}
-use Rattle.std.proofs.lemmas.Bool.Decides.{nat_tests}
+use Rattle.std.proofs.Common.{◌≡◌, ◌↔◌, ℕ, List, [], ◌∷◌, ◌++◌, Option, Some, None, Result, Ok, Err, refl, sym, ap, ◌∙◌, subst, inl, inr, arith}
+use Rattle.std.specs.Prelude.{codes}
 use Rattle.asm_io.specs.Outside.{Files}
-use Rattle.boolean_fire.specs.declared.stop.Stop.{Stop}
+use Rattle.asm_io.specs.declared.sources.Source.{Source}
+use Rattle.asm_tree.specs.declared.unit.LoadedUnit.{LoadedUnit}
+use Rattle.asm_tree.specs.declared.unit.RawUnit.{RawUnit}
+use Rattle.asm_canonical.specs.Units.{canonical}
+use Rattle.asm_unit.specs.declared.error.LoadError.{LoadError}
+use Rattle.boolean_run.specs.declared.machine.Machine.{Machine}
 use Rattle.boolean_run.specs.declared.run.RunEnd.{RunEnd}
 use Rattle.boolean_run.specs.declared.run.RunEnd.TheVariants.{Done, Stopped}
 use Rattle.boolean_run.specs.Printed.{run_of}
 use Rattle.asm_unit.specs.Path.{normalised}
-use Rattle.asm_cli.specs.Words.{Asked, asked_of}
-use Rattle.asm_cli.specs.Answer.{IsModel, Says, says_asked, says_file, says_held, answer, sources_of, end_code, OneAnswer, most_bytes, Reaches, HasFileFault, EndsIn, IsDone, IsStopped}
-use Rattle.asm_cli.proofs.Models.{same_model}
-
--- the ways to answer
-pub data Case (words : List (List ℕ)) (files : Files) (k : ℕ) : Type 0 where
-  bad : asked_of words ≡ None → k ≡ 2 → Case words files k
-  fault : HasFileFault words files → k ≡ 3 → Case words files k
-  ends : (end : RunEnd) → EndsIn words files end → k ≡ end_code end → Case words files k
-
-below_limit : (n m : ℕ) → nat_lt n m ≡ false → m ≤ n
-below_limit n m e = grind (arith, nat_tests)
-
-over_limit : (n m : ℕ) → nat_lt n m ≡ true → n < m
-over_limit n m e = grind (arith, nat_tests)
-
-module _ (words : List (List ℕ)) (files : Files) where
-  of_held : (asked : Asked) (held text : List ℕ) (k : ℕ) → Reaches words files asked held → says_held (normalised asked.model) asked.steps held text k → Case words files k
-  of_held asked held text k reaches (inl s) = ends _ (record { asked = asked; held = held; machine = s.machine; reaches = reaches; is_model = s.is_model; end_is = refl }) s.says.code_is
-  of_held asked held text k reaches (inr s) = fault (inr (inr record { asked = asked; held = held; reaches = reaches; no_model = s.no_model })) s.says.code_is
-
-  of_test : (asked : Asked) (held text : List ℕ) (k : ℕ) → asked_of words ≡ Some asked → get files (normalised asked.model) ≡ Some held → (b : Truth) → nat_lt most_bytes (length held) ≡ b
-      → MatchBool b (Says (normalised asked.model ++ codes ": too long") 3 text k) (says_held (normalised asked.model) asked.steps held text k) → Case words files k
-  of_test asked held text k is got true test a = fault (inr (inl record { asked = asked; held = held; asked_is = is; there = got; long = over_limit most_bytes (length held) test })) a.code_is
-  of_test asked held text k is got false test a = of_held asked held text k (record { asked_is = is; there = got; short = below_limit most_bytes (length held) test }) a
-
-  of_file : (asked : Asked) (text : List ℕ) (k : ℕ) → asked_of words ≡ Some asked → (o : Option (List ℕ)) → get files (normalised asked.model) ≡ o
-      → says_file (normalised asked.model) asked.steps o text k → Case words files k
-  of_file asked text k is None got a = fault (inl record { asked = asked; asked_is = is; absent = got }) a.code_is
-  of_file asked text k is (Some held) got a = of_test asked held text k is got _ refl a
-
-  of_words : (text : List ℕ) (k : ℕ) (o : Option Asked) → asked_of words ≡ o → says_asked o files text k → Case words files k
-  of_words text k None is a = bad is a.code_is
-  of_words text k (Some asked) is a = of_file asked text k is _ refl a
-
-  pub case_of : (text : List ℕ) (k : ℕ) → answer words files text k → Case words files k
-  case_of text k a = of_words text k _ refl a
-
-  -- ---- each cause rules out the others
-
-  same_asked : (a b : Asked) → asked_of words ≡ Some a → asked_of words ≡ Some b → a ≡ b
-  same_asked a b p q = let e : Some a ≡ Some b = sym p ∙ q in cc
-
-  not_asked : (a : Asked) → asked_of words ≡ None → asked_of words ≡ Some a → ⊥
-  not_asked a p q = let e : None ≡ Some a = sym p ∙ q in cc
-
-  found_once : (a b : Asked) (h : List ℕ) (o : Option (List ℕ)) → a ≡ b → get files (normalised a.model) ≡ Some h → get files (normalised b.model) ≡ o → Some h ≡ o
-  found_once a b h o e p q = sym p ∙ ap (λ (x : Asked). get files (normalised x.model)) e ∙ q
-
-  same_held : (a b : Asked) (g h : List ℕ) → Reaches words files a g → Reaches words files b h → g ≡ h
-  same_held a b g h p q = let e : Some g ≡ Some h = found_once a b g (Some h) (same_asked a b p.asked_is q.asked_is) p.there q.there in cc
-
-  not_fault : (end : RunEnd) → EndsIn words files end → HasFileFault words files → ⊥
-  not_fault end e (inl f) = let x : Some e.held ≡ None = found_once e.asked f.asked e.held None (same_asked e.asked f.asked e.reaches.asked_is f.asked_is) e.reaches.there f.absent in cc
-  not_fault end e (inr (inl f)) =
-      let x : Some e.held ≡ Some f.held = found_once e.asked f.asked e.held (Some f.held) (same_asked e.asked f.asked e.reaches.asked_is f.asked_is) e.reaches.there f.there in
-      let y : e.held ≡ f.held = cc in
-      let z : length e.held ≡ length f.held = ap length y in
-      let short = e.reaches.short in
-      let long = f.long in
-      absurd (omega arith)
-  not_fault end e (inr (inr f)) =
-      f.no_model e.machine (subst (λ (h : List ℕ). IsModel h e.machine) (same_held e.asked f.asked e.held f.held e.reaches f.reaches) e.is_model)
-
-  same_end : (d e : RunEnd) → EndsIn words files d → EndsIn words files e → d ≡ e
-  same_end d e p q =
-      let a : p.asked ≡ q.asked = same_asked p.asked q.asked p.reaches.asked_is q.reaches.asked_is in
-      let h : p.held ≡ q.held = same_held p.asked q.asked p.held q.held p.reaches q.reaches in
-      let m : p.machine ≡ q.machine = same_model q.held p.machine q.machine (subst (λ (x : List ℕ). IsModel x p.machine) h p.is_model) q.is_model in
-      sym p.end_is ∙ (λ i. (run_of (m i) (sources_of (normalised (a i).model) (h i)) (a i).steps).end) ∙ q.end_is
-
-  bad_fault : asked_of words ≡ None → HasFileFault words files → ⊥
-  bad_fault is (inl f) = not_asked f.asked is f.asked_is
-  bad_fault is (inr (inl f)) = not_asked f.asked is f.asked_is
-  bad_fault is (inr (inr f)) = not_asked f.asked is f.reaches.asked_is
-
-  bad_ends : asked_of words ≡ None → (end : RunEnd) → EndsIn words files end → ⊥
-  bad_ends is end e = not_asked e.asked is e.reaches.asked_is
-
-  done_stopped : (e : Stop) → Done ≡ Stopped e → ⊥
-  done_stopped e is = cc
-
-  -- ---- which code comes where
-
-  three_of : (k : ℕ) → Case words files k → (k ≡ 3) ↔ HasFileFault words files
-  three_of k (bad is code) = (λ e. absurd (omega arith), λ f. absurd (bad_fault is f))
-  three_of k (fault f code) = (λ _. f, λ _. code)
-  three_of k (ends Done e code) = (λ c. absurd (omega arith), λ f. absurd (not_fault Done e f))
-  three_of k (ends (Stopped s) e code) = (λ c. absurd (omega arith), λ f. absurd (not_fault (Stopped s) e f))
-
-  pub three_iff : (text : List ℕ) (k : ℕ) → answer words files text k → (k ≡ 3) ↔ HasFileFault words files
-  three_iff text k a = three_of k (case_of text k a)
-
-  four_of : (k : ℕ) → Case words files k → (k ≡ 4) ↔ IsStopped words files
-  four_of k (bad is code) = (λ e. absurd (omega arith), λ s. absurd (bad_ends is (Stopped s.0) s.1))
-  four_of k (fault f code) = (λ e. absurd (omega arith), λ s. absurd (not_fault (Stopped s.0) s.1 f))
-  four_of k (ends Done e code) = (λ c. absurd (omega arith), λ s. absurd (done_stopped s.0 (same_end Done (Stopped s.0) e s.1)))
-  four_of k (ends (Stopped s) e code) = (λ _. (s, e), λ _. code)
-
-  pub four_iff : (text : List ℕ) (k : ℕ) → answer words files text k → (k ≡ 4) ↔ IsStopped words files
-  four_iff text k a = four_of k (case_of text k a)
-
-  zero_of : (k : ℕ) → Case words files k → (k ≡ 0) ↔ IsDone words files
-  zero_of k (bad is code) = (λ e. absurd (omega arith), λ d. absurd (bad_ends is Done d))
-  zero_of k (fault f code) = (λ e. absurd (omega arith), λ d. absurd (not_fault Done d f))
-  zero_of k (ends Done e code) = (λ _. e, λ _. code)
-  zero_of k (ends (Stopped s) e code) = (λ c. absurd (omega arith), λ d. absurd (done_stopped s (same_end Done (Stopped s) d e)))
-
-  pub zero_iff : (text : List ℕ) (k : ℕ) → answer words files text k → (k ≡ 0) ↔ IsDone words files
-  zero_iff text k a = zero_of k (case_of text k a)
+use Rattle.asm_cli.specs.Fault.{fault_text}
+use Rattle.asm_cli.specs.Words.{Asked, ToRun, ToFormat, asked_of}
+use Rattle.asm_cli.specs.Answer.{Says, says_machine, says_units, says_canonical, says_end, says_task, says_asked, answer, loaded, alone, machine_of_units, end_code, OneAnswer, IsFirstFault, HasFileFault, EndsIn, IsDone, IsStopped}
 
 -- ---- there is one answer
 
 one_line : (line t u : List ℕ) (meant k l : ℕ) → Says line meant t k → Says line meant u l → (t ≡ u) × (k ≡ l)
 one_line line t u meant k l a b = (a.text_is ∙ sym b.text_is, a.code_is ∙ sym b.code_is)
 
-module _ (name : List ℕ) (steps : ℕ) (t u : List ℕ) (k l : ℕ) where
-  one_held : (held : List ℕ) → says_held name steps held t k → says_held name steps held u l → (t ≡ u) × (k ≡ l)
-  one_held held (inl a) (inl b) =
-      let m : a.machine ≡ b.machine = same_model held a.machine b.machine a.is_model b.is_model in (
-        a.says.text_is ∙ (λ i. (run_of (m i) (sources_of name held) steps).text) ∙ sym b.says.text_is,
-        a.says.code_is ∙ (λ i. end_code (run_of (m i) (sources_of name held) steps).end) ∙ sym b.says.code_is,
-      )
-  one_held held (inl a) (inr b) = absurd (b.no_model a.machine a.is_model)
-  one_held held (inr a) (inl b) = absurd (a.no_model b.machine b.is_model)
-  one_held held (inr a) (inr b) = one_line (name ++ codes ": not built yet") t u 3 k l a.says b.says
+module _ (t u : List ℕ) (k l : ℕ) (sources : List Source) where
+  one_machine : (name : List ℕ) (steps : ℕ) (o : Option Machine) → says_machine name steps sources o t k → says_machine name steps sources o u l → (t ≡ u) × (k ≡ l)
+  one_machine name steps None a b = one_line (name ++ codes ": not built yet") t u 3 k l a b
+  one_machine name steps (Some m) a b = (a.text_is ∙ sym b.text_is, a.code_is ∙ sym b.code_is)
 
-  one_test : (held : List ℕ) (long : Truth) → MatchBool long (Says (name ++ codes ": too long") 3 t k) (says_held name steps held t k)
-      → MatchBool long (Says (name ++ codes ": too long") 3 u l) (says_held name steps held u l) → (t ≡ u) × (k ≡ l)
-  one_test held true a b = one_line (name ++ codes ": too long") t u 3 k l a b
-  one_test held false a b = one_held held a b
+  one_run : (name : List ℕ) (steps : ℕ) (end : Result (List LoadedUnit) LoadError) → says_end (says_units name steps) sources end t k → says_end (says_units name steps) sources end u l → (t ≡ u) × (k ≡ l)
+  one_run name steps (Ok units) a b = one_machine name steps (machine_of_units units) a b
+  one_run name steps (Err e) a b = one_line (fault_text sources e) t u 3 k l a b
 
-  one_file : (o : Option (List ℕ)) → says_file name steps o t k → says_file name steps o u l → (t ≡ u) × (k ≡ l)
-  one_file None a b = one_line (name ++ codes ": no such file") t u 3 k l a b
-  one_file (Some held) a b = one_test held (nat_lt most_bytes (length held)) a b
+  one_canonical : (end : Result RawUnit LoadError) → says_end says_canonical sources end t k → says_end says_canonical sources end u l → (t ≡ u) × (k ≡ l)
+  one_canonical (Ok unit) a b = (a.text_is ∙ sym b.text_is, a.code_is ∙ sym b.code_is)
+  one_canonical (Err e) a b = one_line (fault_text sources e) t u 3 k l a b
+
+one_task : (files : Files) (t u : List ℕ) (k l : ℕ) (asked : Asked) → says_task asked files t k → says_task asked files u l → (t ≡ u) × (k ≡ l)
+one_task files t u k l (ToRun model steps) a b = one_run t u k l (loaded files model).sources (normalised model) steps (loaded files model).end a b
+one_task files t u k l (ToFormat model) a b = one_canonical t u k l (alone files model).sources (alone files model).end a b
 
 one_asked : (files : Files) (t u : List ℕ) (k l : ℕ) (o : Option Asked) → says_asked o files t k → says_asked o files u l → (t ≡ u) × (k ≡ l)
 one_asked files t u k l None a b = one_line (codes "asmeta: bad arguments") t u 2 k l a b
-one_asked files t u k l (Some asked) a b = one_file (normalised asked.model) asked.steps t u k l (get files (normalised asked.model)) a b
+one_asked files t u k l (Some asked) a b = one_task files t u k l asked a b
 
 pub one_answer : OneAnswer
 one_answer words files t u k l a b = one_asked files t u k l (asked_of words) a b
+
+-- ---- each answer has a cause
+
+-- the ways to answer
+pub data Case (words : List (List ℕ)) (files : Files) (k : ℕ) : Type 0 where
+  bad : asked_of words ≡ None → k ≡ 2 → Case words files k
+  fault : HasFileFault words files → k ≡ 3 → Case words files k
+  stops : IsStopped words files → k ≡ 4 → Case words files k
+  done : IsDone words files → k ≡ 0 → Case words files k
+
+module _ (words : List (List ℕ)) (files : Files) where
+  of_run : (k : ℕ) (end : RunEnd) → EndsIn words files end → k ≡ end_code end → Case words files k
+  of_run k Done e code = done (inl e) code
+  of_run k (Stopped s) e code = stops (s, e) code
+
+  of_machine : (model : List ℕ) (steps : ℕ) (text : List ℕ) (k : ℕ) → asked_of words ≡ Some (ToRun model steps) → (units : List LoadedUnit) → (loaded files model).end ≡ Ok units → (o : Option Machine) → machine_of_units units ≡ o
+      → says_machine (normalised model) steps (loaded files model).sources o text k → Case words files k
+  of_machine model steps text k is units are None made a = fault (inr record { model = model; steps = steps; units = units; asked_is = is; units_are = are; no_machine = made }) a.code_is
+  of_machine model steps text k is units are (Some machine) made a =
+      of_run k (run_of machine (loaded files model).sources steps).end (record { model = model; steps = steps; units = units; machine = machine; asked_is = is; units_are = are; machine_is = made; end_is = refl }) a.code_is
+
+  of_refused : (asked : Asked) (e : LoadError) (k : ℕ) → asked_of words ≡ Some asked → IsFirstFault asked files e → k ≡ 3 → Case words files k
+  of_refused asked e k is first code = fault (inl record { asked = asked; fault = e; asked_is = is; is_first = first }) code
+
+  of_units : (model : List ℕ) (steps : ℕ) (text : List ℕ) (k : ℕ) → asked_of words ≡ Some (ToRun model steps) → (end : Result (List LoadedUnit) LoadError) → (loaded files model).end ≡ end
+      → says_end (says_units (normalised model) steps) (loaded files model).sources end text k → Case words files k
+  of_units model steps text k is (Ok units) are a = of_machine model steps text k is units are (machine_of_units units) refl a
+  of_units model steps text k is (Err e) are a = of_refused (ToRun model steps) e k is are a.code_is
+
+  of_unit : (model : List ℕ) (text : List ℕ) (k : ℕ) → asked_of words ≡ Some (ToFormat model) → (end : Result RawUnit LoadError) → (alone files model).end ≡ end
+      → says_end says_canonical (alone files model).sources end text k → Case words files k
+  of_unit model text k is (Ok unit) are a = done (inr record { model = model; unit = unit; asked_is = is; unit_is = are }) a.code_is
+  of_unit model text k is (Err e) are a = of_refused (ToFormat model) e k is are a.code_is
+
+  of_task : (text : List ℕ) (k : ℕ) (asked : Asked) → asked_of words ≡ Some asked → says_task asked files text k → Case words files k
+  of_task text k (ToRun model steps) is a = of_units model steps text k is (loaded files model).end refl a
+  of_task text k (ToFormat model) is a = of_unit model text k is (alone files model).end refl a
+
+  of_words : (text : List ℕ) (k : ℕ) (o : Option Asked) → asked_of words ≡ o → says_asked o files text k → Case words files k
+  of_words text k None is a = bad is a.code_is
+  of_words text k (Some asked) is a = of_task text k asked is a
+
+  pub case_of : (text : List ℕ) (k : ℕ) → answer words files text k → Case words files k
+  case_of text k a = of_words text k (asked_of words) refl a
+
+  -- ---- each cause has an answer
+
+  abbrev Answered : ℕ → Type 0
+  Answered k = (text : List ℕ) × answer words files text k
+
+  answered : (asked : Asked) (text : List ℕ) (k : ℕ) → asked_of words ≡ Some asked → says_task asked files text k → Answered k
+  answered asked text k is a = (text, subst (λ (o : Option Asked). says_asked o files text k) (sym is) a)
+
+  answered_run : (model : List ℕ) (steps : ℕ) (text : List ℕ) (k : ℕ) → asked_of words ≡ Some (ToRun model steps) → (end : Result (List LoadedUnit) LoadError) → (loaded files model).end ≡ end
+      → says_end (says_units (normalised model) steps) (loaded files model).sources end text k → Answered k
+  answered_run model steps text k is end are a = answered (ToRun model steps) text k is (subst (λ (e : Result (List LoadedUnit) LoadError). says_end (says_units (normalised model) steps) (loaded files model).sources e text k) (sym are) a)
+
+  answered_unit : (model : List ℕ) (text : List ℕ) (k : ℕ) → asked_of words ≡ Some (ToFormat model) → (end : Result RawUnit LoadError) → (alone files model).end ≡ end
+      → says_end says_canonical (alone files model).sources end text k → Answered k
+  answered_unit model text k is end are a = answered (ToFormat model) text k is (subst (λ (e : Result RawUnit LoadError). says_end says_canonical (alone files model).sources e text k) (sym are) a)
+
+  answered_machine : (model : List ℕ) (steps : ℕ) (text : List ℕ) (k : ℕ) → asked_of words ≡ Some (ToRun model steps) → (units : List LoadedUnit) → (loaded files model).end ≡ Ok units → (o : Option Machine) → machine_of_units units ≡ o
+      → says_machine (normalised model) steps (loaded files model).sources o text k → Answered k
+  answered_machine model steps text k is units are o made a =
+      answered_run model steps text k is (Ok units) are (subst (λ (m : Option Machine). says_machine (normalised model) steps (loaded files model).sources m text k) (sym made) a)
+
+  line_of : (sources : List Source) (e : LoadError) → Says (fault_text sources e) 3 (fault_text sources e ++ 10 ∷ []) 3
+  line_of sources e = record { text_is = refl; code_is = refl }
+
+  refused_answered : (asked : Asked) (e : LoadError) → asked_of words ≡ Some asked → IsFirstFault asked files e → Answered 3
+  refused_answered (ToRun model steps) e is first = answered_run model steps (fault_text (loaded files model).sources e ++ 10 ∷ []) 3 is (Err e) first (line_of (loaded files model).sources e)
+  refused_answered (ToFormat model) e is first = answered_unit model (fault_text (alone files model).sources e ++ 10 ∷ []) 3 is (Err e) first (line_of (alone files model).sources e)
+
+  fault_answered : HasFileFault words files → Answered 3
+  fault_answered (inl f) = refused_answered f.asked f.fault f.asked_is f.is_first
+  fault_answered (inr f) = answered_machine f.model f.steps ((normalised f.model ++ codes ": not built yet") ++ 10 ∷ []) 3 f.asked_is f.units f.units_are None f.no_machine (record { text_is = refl; code_is = refl })
+
+  run_answered : (end : RunEnd) → EndsIn words files end → Answered (end_code end)
+  run_answered end e = answered_machine e.model e.steps (run_of e.machine (loaded files e.model).sources e.steps).text (end_code end) e.asked_is e.units e.units_are (Some e.machine) e.machine_is (record { text_is = refl; code_is = ap end_code (sym e.end_is) })
+
+  stop_answered : IsStopped words files → Answered 4
+  stop_answered s = run_answered (Stopped s.0) s.1
+
+  done_answered : IsDone words files → Answered 0
+  done_answered (inl e) = run_answered Done e
+  done_answered (inr f) = answered_unit f.model (canonical f.unit) 0 f.asked_is (Ok f.unit) f.unit_is (record { text_is = refl; code_is = refl })
+
+  same_code : (text : List ℕ) (k l : ℕ) → answer words files text k → Answered l → k ≡ l
+  same_code text k l a b = (one_answer words files text b.0 k l a b.1).1
+
+  -- ---- which code comes where
+
+  three_of : (k : ℕ) → Case words files k → k ≡ 3 → HasFileFault words files
+  three_of k (bad is code) e = absurd (omega arith)
+  three_of k (fault f code) e = f
+  three_of k (stops s code) e = absurd (omega arith)
+  three_of k (done d code) e = absurd (omega arith)
+
+  pub three_iff : (text : List ℕ) (k : ℕ) → answer words files text k → (k ≡ 3) ↔ HasFileFault words files
+  three_iff text k a = (three_of k (case_of text k a), λ f. same_code text k 3 a (fault_answered f))
+
+  four_of : (k : ℕ) → Case words files k → k ≡ 4 → IsStopped words files
+  four_of k (bad is code) e = absurd (omega arith)
+  four_of k (fault f code) e = absurd (omega arith)
+  four_of k (stops s code) e = s
+  four_of k (done d code) e = absurd (omega arith)
+
+  pub four_iff : (text : List ℕ) (k : ℕ) → answer words files text k → (k ≡ 4) ↔ IsStopped words files
+  four_iff text k a = (four_of k (case_of text k a), λ s. same_code text k 4 a (stop_answered s))
+
+  zero_of : (k : ℕ) → Case words files k → k ≡ 0 → IsDone words files
+  zero_of k (bad is code) e = absurd (omega arith)
+  zero_of k (fault f code) e = absurd (omega arith)
+  zero_of k (stops s code) e = absurd (omega arith)
+  zero_of k (done d code) e = d
+
+  pub zero_iff : (text : List ℕ) (k : ℕ) → answer words files text k → (k ≡ 0) ↔ IsDone words files
+  zero_iff text k a = (zero_of k (case_of text k a), λ d. same_code text k 0 a (done_answered d))

@@ -1,14 +1,9 @@
 -- Calls that print answers.
-use Rattle.std.proofs.Common.{◌≡◌, ℕ, ◌<◌, ◌≤◌, List, ◌++◌, length, Option, Some, None, nat_lt, false, true, arith, inl, inr}
-use Rattle.std.specs.Prelude.{codes}
-use Rattle.std.specs.FinMap.{get}
-use Rattle.std.proofs.lemmas.Bool.Decides.{nat_tests}
-use Rattle.asm_io.specs.Outside.{Files}
-use Rattle.asm_io.specs.Reads.{IsTooLong}
+use Rattle.std.proofs.Common.{ℕ, List, Option, inl, inr}
 use Rattle.asm_cli.specs.declared.exit.Exit.{Exit}
 use Rattle.asm_cli.specs.declared.exit.Exit.TheVariants.{Code, ReadFault, WriteFault, Memory}
 use Rattle.asm_cli.specs.Exit.{OnCode, OnFault}
-use Rattle.asm_cli.specs.Answer.{Saying, Prints, PrintsPart, Says, says_file, says_held, most_bytes}
+use Rattle.asm_cli.specs.Answer.{Saying, Prints, PrintsPart}
 use Rattle.asm_cli.specs.Reply.{Replies}
 
 pub on_code : (exit : Exit) {P : ℕ → Type 0} (Q : ℕ → Type 0) → OnCode exit P → ((k : ℕ) → P k → Q k) → OnCode exit Q
@@ -42,24 +37,3 @@ replies_more written faults old new P Q exit f r = record {
   write_fault = r.write_fault;
   later = r.later;
 }
-
--- ---- what is said of a file
-
-within_limit : (n m : ℕ) → m ≤ n → nat_lt n m ≡ false
-within_limit n m le = grind (arith, nat_tests)
-
-over_limit : (n m : ℕ) → n < m → nat_lt n m ≡ true
-over_limit n m lt = grind (arith, nat_tests)
-
-pub says_of_held : (name : List ℕ) (steps : ℕ) (o : Option (List ℕ)) (held : List ℕ) → o ≡ Some held → length held ≤ most_bytes → (t : List ℕ) (k : ℕ) → says_held name steps held t k → says_file name steps o t k
-says_of_held name steps o held got short t k s =
-    let test : nat_lt most_bytes (length held) ≡ false = within_limit most_bytes (length held) short in
-    rw got (rw test s)
-
-pub says_of_absent : (name : List ℕ) (steps : ℕ) (o : Option (List ℕ)) → o ≡ None → (t : List ℕ) (k : ℕ) → Says (name ++ codes ": no such file") 3 t k → says_file name steps o t k
-says_of_absent name steps o got t k s = rw got s
-
-pub says_of_long : (name : List ℕ) (steps : ℕ) (files : Files) → IsTooLong files name most_bytes → (t : List ℕ) (k : ℕ) → Says (name ++ codes ": too long") 3 t k → says_file name steps (get files name) t k
-says_of_long name steps files long t k s =
-    let test : nat_lt most_bytes (length long.text) ≡ true = over_limit most_bytes (length long.text) long.longer in
-    rw long.held (rw test s)

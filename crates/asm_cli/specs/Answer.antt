@@ -1,12 +1,10 @@
 -- What a command line prints, and with which code.
-use Rattle.std.specs.Prelude.{◌≡◌, ◌⊎◌, ◌<◌, ◌≤◌, ℕ, List, [], ◌∷◌, ◌++◌, length, MatchBool, nat_lt, Option, Some, None, Ok, codes}
-use Rattle.std.specs.FinMap.{get}
+use Rattle.std.specs.Prelude.{◌≡◌, ◌⊎◌, ℕ, List, [], ◌∷◌, ◌++◌, Option, Some, None, Result, Ok, Err, codes}
 use Rattle.asm_io.specs.Outside.{Files, Adds, AddsPart}
 use Rattle.asm_io.specs.declared.sources.Source.{Source}
-use Rattle.asm_lex.specs.declared.token.Token.{Token}
-use Rattle.asm_lex.specs.Cut.{cut}
-use Rattle.boolean_body.specs.declared.tree.RawUnit.{RawUnit}
-use Rattle.boolean_body.specs.Unit.{IsUnit}
+use Rattle.asm_tree.specs.declared.unit.LoadedUnit.{LoadedUnit}
+use Rattle.asm_tree.specs.declared.unit.RawUnit.{RawUnit}
+use Rattle.asm_canonical.specs.Units.{canonical}
 use Rattle.boolean_fire.specs.declared.stop.Stop.{Stop}
 use Rattle.boolean_run.specs.declared.machine.Machine.{Machine}
 use Rattle.boolean_run.specs.declared.run.RunEnd.{RunEnd}
@@ -14,42 +12,35 @@ use Rattle.boolean_run.specs.declared.run.RunEnd.TheVariants.{Done, Stopped}
 use Rattle.boolean_run.specs.Machine.{machine_of}
 use Rattle.boolean_run.specs.Printed.{run_of}
 use Rattle.asm_unit.specs.Path.{normalised}
-use Rattle.asm_cli.specs.Words.{Asked, asked_of}
+use Rattle.asm_unit.specs.declared.error.LoadError.{LoadError}
+use Rattle.asm_unit.specs.Loading.{Outcome, units_in, unit_in}
+use Rattle.asm_cli.specs.Fault.{fault_text}
+use Rattle.asm_cli.specs.Words.{Asked, ToRun, ToFormat, asked_of}
 
 -- ---- models
 
--- the greatest number of bytes of a model's file
-abbrev pub most_bytes : ℕ
-most_bytes = 262144
+-- the machine of a model's units, if it is one Boolean model
+abbrev pub machine_of_units : List LoadedUnit → Option Machine
+machine_of_units (loaded ∷ []) = machine_of loaded.unit
+machine_of_units _ = None
 
--- the bytes have a cut into tokens that spell the unit
-pub record IsUnitOf (held : List ℕ) (unit : RawUnit) : Type 0 where
-  pub tokens : List Token
-  pub cut_is : cut held ≡ Ok tokens
-  pub spelled : IsUnit held tokens unit
+-- what a model's files come to
+abbrev pub loaded : Files → List ℕ → Outcome (List LoadedUnit)
+loaded files model = units_in files model []
 
--- the bytes spell no unit
-abbrev pub IsNoUnit : List ℕ → Type 0
-IsNoUnit held = (unit : RawUnit) → IsUnitOf held unit → ⊥
-
--- the bytes spell a unit, of which this is the machine
-pub record IsModel (held : List ℕ) (machine : Machine) : Type 0 where
-  pub unit : RawUnit
-  pub is_unit : IsUnitOf held unit
-  pub machine_is : machine_of unit ≡ Some machine
-
--- the bytes are no model
-abbrev pub IsNoModel : List ℕ → Type 0
-IsNoModel held = (machine : Machine) → IsModel held machine → ⊥
-
--- the one file that a run reads
-abbrev pub sources_of : List ℕ → List ℕ → List Source
-sources_of name held = record { name = name; text = held } ∷ []
+-- what a file comes to without its imports
+abbrev pub alone : Files → List ℕ → Outcome RawUnit
+alone files model = unit_in files model []
 
 -- ---- what is printed, as relations between a text and a code
 
 abbrev pub Saying : Type 1
 Saying = List ℕ → ℕ → Type 0
+
+-- exactly these bytes, with this code
+pub record SaysBytes (bytes : List ℕ) (meant : ℕ) (text : List ℕ) (code : ℕ) : Type 0 where
+  pub text_is : text ≡ bytes
+  pub code_is : code ≡ meant
 
 -- this line, with this code
 pub record Says (line : List ℕ) (meant : ℕ) (text : List ℕ) (code : ℕ) : Type 0 where
@@ -66,29 +57,36 @@ pub record SaysRun (machine : Machine) (sources : List Source) (steps : ℕ) (te
   pub text_is : text ≡ (run_of machine sources steps).text
   pub code_is : code ≡ end_code (run_of machine sources steps).end
 
--- the run of the model that the bytes are
-pub record SaysModel (name held : List ℕ) (steps : ℕ) (text : List ℕ) (code : ℕ) : Type 0 where
-  pub machine : Machine
-  pub is_model : IsModel held machine
-  pub says : SaysRun machine (sources_of name held) steps text code
+-- the run of a machine, or the line where there is none
+abbrev pub says_machine : List ℕ → ℕ → List Source → Option Machine → Saying
+says_machine name steps sources None text code = Says (name ++ codes ": not built yet") 3 text code
+says_machine name steps sources (Some machine) text code = SaysRun machine sources steps text code
 
--- the line for bytes that are no model
-pub record SaysNotBuilt (name held : List ℕ) (text : List ℕ) (code : ℕ) : Type 0 where
-  pub no_model : IsNoModel held
-  pub says : Says (name ++ codes ": not built yet") 3 text code
+-- what is printed of the units of a model in a run of so many steps
+abbrev pub says_units : List ℕ → ℕ → List Source → List LoadedUnit → Saying
+says_units name steps sources units text code = says_machine name steps sources (machine_of_units units) text code
 
--- what is printed of these bytes
-abbrev pub says_held : List ℕ → ℕ → List ℕ → Saying
-says_held name steps held text code = SaysModel name held steps text code ⊎ SaysNotBuilt name held text code
+-- the canonical text of a unit
+abbrev pub says_canonical : List Source → RawUnit → Saying
+says_canonical sources unit text code = SaysBytes (canonical unit) 0 text code
 
--- what is printed of a file of this name, which may be there
-abbrev pub says_file : List ℕ → ℕ → Option (List ℕ) → Saying
-says_file name steps None text code = Says (name ++ codes ": no such file") 3 text code
-says_file name steps (Some held) text code = MatchBool (nat_lt most_bytes (length held)) (Says (name ++ codes ": too long") 3 text code) (says_held name steps held text code)
+-- what `says` says of these files and what they are, or the line of the first fault of a file
+abbrev pub says_end : {A : Type 0} → (List Source → A → Saying) → List Source → Result A LoadError → Saying
+says_end says sources (Ok value) text code = says sources value text code
+says_end says sources (Err fault) text code = Says (fault_text sources fault) 3 text code
+
+-- the same where these files were read and this came of it
+abbrev pub says_outcome : {A : Type 0} → (List Source → A → Saying) → Outcome A → Saying
+says_outcome says o text code = says_end says o.sources o.end text code
+
+-- what a command prints over these files: the run of a model, or the canonical text of one file
+abbrev pub says_task : Asked → Files → Saying
+says_task (ToRun model steps) files text code = says_outcome (says_units (normalised model) steps) (loaded files model) text code
+says_task (ToFormat model) files text code = says_outcome says_canonical (alone files model) text code
 
 abbrev pub says_asked : Option Asked → Files → Saying
 says_asked None files text code = Says (codes "asmeta: bad arguments") 2 text code
-says_asked (Some asked) files text code = says_file (normalised asked.model) asked.steps (get files (normalised asked.model)) text code
+says_asked (Some asked) files text code = says_task asked files text code
 
 -- what these words print over these files, and with which code
 abbrev pub answer : List (List ℕ) → Files → Saying
@@ -100,48 +98,51 @@ OneAnswer = (words : List (List ℕ)) (files : Files) (t u : List ℕ) (k l : �
 
 -- ---- causes of the codes
 
--- the file is there and isn't too long, and the words ask for its run
-pub record Reaches (words : List (List ℕ)) (files : Files) (asked : Asked) (held : List ℕ) : Type 0 where
-  pub asked_is : asked_of words ≡ Some asked
-  pub there : get files (normalised asked.model) ≡ Some held
-  pub short : length held ≤ most_bytes
+-- this is the first fault of a file that the command reads
+abbrev pub IsFirstFault : Asked → Files → LoadError → Type 0
+IsFirstFault (ToRun model steps) files fault = (loaded files model).end ≡ Err fault
+IsFirstFault (ToFormat model) files fault = (alone files model).end ≡ Err fault
 
--- the file that the words name isn't there
-pub record IsAbsent (words : List (List ℕ)) (files : Files) : Type 0 where
+-- a file that the command reads has a fault
+pub record IsRefused (words : List (List ℕ)) (files : Files) : Type 0 where
   pub asked : Asked
+  pub fault : LoadError
   pub asked_is : asked_of words ≡ Some asked
-  pub absent : get files (normalised asked.model) ≡ None
+  pub is_first : IsFirstFault asked files fault
 
--- it has too many bytes
-pub record IsTooLong (words : List (List ℕ)) (files : Files) : Type 0 where
-  pub asked : Asked
-  pub held : List ℕ
-  pub asked_is : asked_of words ≡ Some asked
-  pub there : get files (normalised asked.model) ≡ Some held
-  pub long : most_bytes < length held
-
--- it is no model
+-- the units of a model to run are no Boolean model
 pub record IsNotBuilt (words : List (List ℕ)) (files : Files) : Type 0 where
-  pub asked : Asked
-  pub held : List ℕ
-  pub reaches : Reaches words files asked held
-  pub no_model : IsNoModel held
+  pub model : List ℕ
+  pub steps : ℕ
+  pub units : List LoadedUnit
+  pub asked_is : asked_of words ≡ Some (ToRun model steps)
+  pub units_are : (loaded files model).end ≡ Ok units
+  pub no_machine : machine_of_units units ≡ None
 
 abbrev pub HasFileFault : List (List ℕ) → Files → Type 0
-HasFileFault words files = IsAbsent words files ⊎ (IsTooLong words files ⊎ IsNotBuilt words files)
+HasFileFault words files = IsRefused words files ⊎ IsNotBuilt words files
 
 -- the run of the model that the words name ends so
 pub record EndsIn (words : List (List ℕ)) (files : Files) (end : RunEnd) : Type 0 where
-  pub asked : Asked
-  pub held : List ℕ
+  pub model : List ℕ
+  pub steps : ℕ
+  pub units : List LoadedUnit
   pub machine : Machine
-  pub reaches : Reaches words files asked held
-  pub is_model : IsModel held machine
-  pub end_is : (run_of machine (sources_of (normalised asked.model) held) asked.steps).end ≡ end
+  pub asked_is : asked_of words ≡ Some (ToRun model steps)
+  pub units_are : (loaded files model).end ≡ Ok units
+  pub machine_is : machine_of_units units ≡ Some machine
+  pub end_is : (run_of machine (loaded files model).sources steps).end ≡ end
 
--- the run makes all its steps
+-- the file to format is a unit
+pub record IsFormatted (words : List (List ℕ)) (files : Files) : Type 0 where
+  pub model : List ℕ
+  pub unit : RawUnit
+  pub asked_is : asked_of words ≡ Some (ToFormat model)
+  pub unit_is : (alone files model).end ≡ Ok unit
+
+-- the run makes all its steps, or the file to format is a unit
 abbrev pub IsDone : List (List ℕ) → Files → Type 0
-IsDone words files = EndsIn words files Done
+IsDone words files = EndsIn words files Done ⊎ IsFormatted words files
 
 -- the run ends in a stop
 abbrev pub IsStopped : List (List ℕ) → Files → Type 0

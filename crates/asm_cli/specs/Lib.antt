@@ -1,4 +1,5 @@
 pub mod Answer
 pub mod Exit
+pub mod Fault
 pub mod Reply
 pub mod Words

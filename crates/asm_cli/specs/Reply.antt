@@ -2,9 +2,14 @@
 use Rattle.std.specs.Prelude.{◌≡◌, ◌≤◌, ℕ, List, Option}
 use Rattle.asm_io.specs.Outside.{Rose}
 use Rattle.asm_cli.specs.declared.exit.Exit.{Exit}
-use Rattle.asm_cli.specs.declared.exit.Exit.TheVariants.{ReadFault, WriteFault}
+use Rattle.asm_cli.specs.declared.exit.Exit.TheVariants.{ReadFault, WriteFault, Memory}
+use Rattle.asm_io.specs.declared.sources.Source.{Source}
+use Rattle.asm_unit.specs.declared.error.LoadError.{LoadError}
+use Rattle.asm_unit.specs.declared.error.LoadError.TheVariants.{Absent, TooLong, Read, Lex, Parse, ImportCycle, TooManyFiles}
+use Rattle.asm_unit.specs.declared.error.LoadError.TheVariants as load
+use Rattle.asm_cli.specs.Fault.{fault_text}
 use Rattle.asm_cli.specs.Exit.{OnCode, OnFault}
-use Rattle.asm_cli.specs.Answer.{Saying, Prints, PrintsPart}
+use Rattle.asm_cli.specs.Answer.{Saying, Says, Prints, PrintsPart}
 
 -- It prints a text of this relation with its code, or ends without a code after a prefix of one. It reads nothing.
 pub record Replies {K : Type 0} (written : K → Option (List ℕ)) (faults : K → ℕ) (old new : K) (says : Saying) (exit : Exit) : Type 0 where
@@ -14,7 +19,18 @@ pub record Replies {K : Type 0} (written : K → Option (List ℕ)) (faults : K 
   pub write_fault : exit ≡ WriteFault → Rose (faults old) (faults new)
   pub later : faults old ≤ faults new
 
--- exactly these bytes, with this code
-pub record SaysBytes (bytes : List ℕ) (meant : ℕ) (text : List ℕ) (code : ℕ) : Type 0 where
-  pub text_is : text ≡ bytes
-  pub code_is : code ≡ meant
+-- It ends so and does nothing.
+pub record EndsQuiet {K : Type 0} (written : K → Option (List ℕ)) (faults : K → ℕ) (old new : K) (end exit : Exit) : Type 0 where
+  pub exit_is : exit ≡ end
+  pub same : new ≡ old
+
+-- It prints the line of a file's fault; after an outside fault or want of memory it ends without a code.
+abbrev pub Refuses : {K : Type 0} → (K → Option (List ℕ)) → (K → ℕ) → K → K → List Source → LoadError → Exit → Type 0
+Refuses written faults old new sources (Absent name) exit = Replies written faults old new (Says (fault_text sources (Absent name)) 3) exit
+Refuses written faults old new sources (TooLong name) exit = Replies written faults old new (Says (fault_text sources (TooLong name)) 3) exit
+Refuses written faults old new sources (Read name) exit = EndsQuiet written faults old new ReadFault exit
+Refuses written faults old new sources (Lex place e) exit = Replies written faults old new (Says (fault_text sources (Lex place e)) 3) exit
+Refuses written faults old new sources (Parse place e) exit = Replies written faults old new (Says (fault_text sources (Parse place e)) 3) exit
+Refuses written faults old new sources (ImportCycle name) exit = Replies written faults old new (Says (fault_text sources (ImportCycle name)) 3) exit
+Refuses written faults old new sources (TooManyFiles name) exit = Replies written faults old new (Says (fault_text sources (TooManyFiles name)) 3) exit
+Refuses written faults old new sources load.Memory exit = EndsQuiet written faults old new Memory exit

@@ -1,7 +1,8 @@
 -- What the words of a command line ask.
 use Rattle.std.specs.Prelude.{ℕ, ◌+◌, ◌-◌, ◌*◌, Bool, false, ◌&&◌, not, List, [], ◌∷◌, if◌then◌else◌, nat_le, nat_eq, Option, Some, None, IsNone, codes, bytes_eq, fold}
 use Rattle.std.specs.List.{starts_with, list_all}
-use Rattle.asm_cli.specs.declared.command.Run.{Run}
+use Rattle.asm_cli.specs.declared.command.Task.{Task}
+use Rattle.asm_cli.specs.declared.command.Task.TheVariants as task
 
 -- a word that isn't empty and isn't an option
 abbrev pub is_position : List ℕ → Bool
@@ -36,21 +37,24 @@ number_up_to limit word = if is_number word then at_most limit (number_of word) 
 
 -- ---- commands
 
--- a run of a model with so many steps
-pub record Asked : Type 0 where
-  pub model : List ℕ
-  pub steps : ℕ
+-- what a command line asks: a run of a model with so many steps, or the canonical text of a file
+pub data Asked : Type 0 where
+  ToRun : (model : List ℕ) (steps : ℕ) → Asked
+  ToFormat : (model : List ℕ) → Asked
 
 abbrev pub run_with : List ℕ → Option ℕ → Option Asked
-run_with model (Some steps) = Some (record { model = model; steps = steps })
+run_with model (Some steps) = Some (ToRun model steps)
 run_with model None = None
 
 abbrev pub run_asked : List ℕ → List ℕ → Option ℕ → Option Asked
 run_asked word model steps = if bytes_eq word (codes "run") && is_position model then run_with model steps else None
 
--- `run MODEL [--steps N]`, where N is at most 100,000; nothing else is asked
+abbrev pub format_asked : List ℕ → Option Asked
+format_asked model = if is_position model then Some (ToFormat model) else None
+
+-- `format MODEL` or `run MODEL [--steps N]`, where N is at most 100,000; nothing else is asked
 abbrev pub asked_of : List (List ℕ) → Option Asked
-asked_of (word ∷ model ∷ []) = run_asked word model (Some 0)
+asked_of (word ∷ model ∷ []) = if bytes_eq word (codes "format") then format_asked model else run_asked word model (Some 0)
 asked_of (word ∷ model ∷ option ∷ value ∷ []) = if bytes_eq option (codes "--steps") then run_asked word model (number_up_to 100000 value) else None
 asked_of words = None
 
@@ -59,5 +63,6 @@ abbrev pub IsBadWords : List (List ℕ) → Type 0
 IsBadWords words = IsNone (asked_of words)
 
 -- what the program's value asks
-abbrev pub seen : Run → Asked
-seen run = record { model = run.model.now; steps = run.steps }
+abbrev pub seen : Task → Asked
+seen (task.Run run) = ToRun run.model.now run.steps
+seen (task.Format model) = ToFormat model.now

@@ -17,12 +17,26 @@ pub struct Run<'a> {
     pub steps: u64,
 }
 
-/// What the words ask, where they are in the grammar: `run MODEL [--steps N]`.
-pub fn asked(words: &[Name]) -> Option<Run<'_>>
+/// What is asked.
+#[derive(Clone, Copy, Debug)]
+pub enum Task<'a> {
+    Run(Run<'a>),
+    /// The canonical text of the file of this name.
+    Format(&'a str),
+}
+
+/// What the words ask, where they are in the grammar: `format MODEL` or `run MODEL [--steps N]`.
+pub fn asked(words: &[Name]) -> Option<Task<'_>>
     ensures { option_map seen result ≡ asked_of words.now }
 {
     match words {
-        [word, model] => asked_run(word.text(), model.text(), Some(0)),
+        [word, model] => {
+            if word.text() == "format" {
+                asked_format(model.text())
+            } else {
+                asked_run(word.text(), model.text(), Some(0))
+            }
+        }
         [word, model, option, value] => {
             if option.text() == "--steps" {
                 asked_run(word.text(), model.text(), number(value.text(), MOST_STEPS))
@@ -35,14 +49,25 @@ pub fn asked(words: &[Name]) -> Option<Run<'_>>
 }
 
 /// The run of a model, where the word asks one and the steps are a number.
-fn asked_run<'a>(word: &str, model: &'a str, steps: Option<u64>) -> Option<Run<'a>>
+fn asked_run<'a>(word: &str, model: &'a str, steps: Option<u64>) -> Option<Task<'a>>
     ensures { option_map seen result ≡ words.run_asked word.now model.now steps }
 {
     if word == "run" && is_position(model) {
-        Some(Run {
+        Some(Task::Run(Run {
             model,
             steps: steps?,
-        })
+        }))
+    } else {
+        None
+    }
+}
+
+/// The canonical text of a file, where the word is a file's name.
+fn asked_format(model: &str) -> Option<Task<'_>>
+    ensures { option_map seen result ≡ words.format_asked model.now }
+{
+    if is_position(model) {
+        Some(Task::Format(model))
     } else {
         None
     }

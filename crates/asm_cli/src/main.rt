@@ -1,9 +1,10 @@
-//! The program: reads Abstract State Machines and runs them.
+//! The program: reads Abstract State Machines, prints their canonical text, and runs them.
 #![tactic(auto)]
 
 mod command;
 mod exit;
-mod model;
+mod fault;
+mod format;
 mod run;
 mod say;
 #[cfg(test)]

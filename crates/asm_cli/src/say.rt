@@ -1,7 +1,7 @@
 //! Prints a line and answers a code.
 ghost use Rattle.std.specs.Prelude.{◌≡◌, ◌++◌, ◌∷◌, [], IfOk};
-ghost use Rattle.asm_cli.specs.Answer.{Says};
-ghost use Rattle.asm_cli.specs.Reply.{Replies, SaysBytes};
+ghost use Rattle.asm_cli.specs.Answer.{Says, SaysBytes};
+ghost use Rattle.asm_cli.specs.Reply.{Replies};
 
 use crate::exit::Exit;
 use asm_io::{Sink, SinkError, Text, append_str, write_text};

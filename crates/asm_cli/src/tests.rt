@@ -23,18 +23,29 @@ fn words(alloc: Global, texts: &[&str]) -> Result<Vec<Name>, Fail> {
     Ok(words)
 }
 
-/// How a run of the file `t.asm` ends, and what it prints.
-fn run(alloc: Global, held: &str, texts: &[&str]) -> Result<(Exit, NoFaultSink), Fail> {
+/// How a command over these files ends, and what it prints.
+fn answer(
+    alloc: Global,
+    files: &[(&str, &str)],
+    texts: &[&str],
+) -> Result<(Exit, NoFaultSink), Fail> {
     let mut shelf = NoFaultShelf::new(alloc);
-    shelf.add(alloc, "t.asm", held.as_bytes())?;
+    for (name, held) in files {
+        shelf.add(alloc, name, held.as_bytes())?;
+    }
     let mut sink = NoFaultSink::new(alloc);
     let words = words(alloc, texts)?;
     let exit = asmeta(alloc, &words, &mut shelf, &mut sink);
     Ok((exit, sink))
 }
 
+/// How a command over the one file `t.asm` ends, and what it prints.
+fn run(alloc: Global, held: &str, texts: &[&str]) -> Result<(Exit, NoFaultSink), Fail> {
+    answer(alloc, &[("t.asm", held)], texts)
+}
+
 /// Signature, main rule, initial values and steps, with the code and what is printed.
-const RUNS: [(&str, &str, &str, &str, u8, &str); 8] = [
+const RUNS: [(&str, &str, &str, &str, u8, &str); 9] = [
     (
         "controlled x : Boolean controlled y : Boolean",
         "par x := y y := x endpar",
@@ -76,6 +87,14 @@ const RUNS: [(&str, &str, &str, &str, u8, &str); 8] = [
         "state 0\n  x = undef\nstop: undefined guard at t.asm:7:1\n",
     ),
     (
+        "controlled load : Boolean",
+        "load := true",
+        "",
+        "1",
+        0,
+        "state 0\n  load = undef\nstate 1\n  load = true\nend\n",
+    ),
+    (
         "monitored m : Boolean",
         "skip",
         "",
@@ -114,7 +133,7 @@ fn each_model_has_its_run(rt: HostRuntime) -> Result<(), Fail> {
 }
 
 /// Words, with the code and what is printed over one file `t.asm` that is empty.
-const WORDS: [(&[&str], u8, &str); 9] = [
+const WORDS: [(&[&str], u8, &str); 14] = [
     (&[], 2, "asmeta: bad arguments\n"),
     (&["run"], 2, "asmeta: bad arguments\n"),
     (&["run", ""], 2, "asmeta: bad arguments\n"),
@@ -129,11 +148,20 @@ const WORDS: [(&[&str], u8, &str); 9] = [
         "asmeta: bad arguments\n",
     ),
     (&["check", "t.asm"], 2, "asmeta: bad arguments\n"),
-    (&["run", "./a//../t.asm"], 3, "t.asm: not built yet\n"),
+    (&["format"], 2, "asmeta: bad arguments\n"),
+    (&["format", "--t.asm"], 2, "asmeta: bad arguments\n"),
+    (
+        &["format", "t.asm", "--steps", "1"],
+        2,
+        "asmeta: bad arguments\n",
+    ),
+    (&["format", "a/../t.asm"], 3, "t.asm:1:1: syntax error\n"),
+    (&["format", "./u.asm"], 3, "u.asm: no such file\n"),
+    (&["run", "./a//../t.asm"], 3, "t.asm:1:1: syntax error\n"),
     (
         &["run", "t.asm", "--steps", "100000"],
         3,
-        "t.asm: not built yet\n",
+        "t.asm:1:1: syntax error\n",
     ),
     (&["run", "sub/../../u.asm"], 3, "../u.asm: no such file\n"),
 ];
@@ -145,6 +173,275 @@ fn each_command_line_has_its_answer(rt: HostRuntime) -> Result<(), Fail> {
         let (exit, sink) = run(alloc, "", texts)?;
         assert_eq!(rt; exit, Exit::Code(code), "{texts:?}");
         assert_eq!(rt; sink.bytes(), printed.as_bytes(), "{texts:?}");
+    }
+    Ok(())
+}
+
+/// A file that has a fault, or is no Boolean model, and the line of its run.
+const FAULTS: [(&str, &str); 26] = [
+    (
+        "asm t import u signature: definitions:",
+        "u.asm: no such file\n",
+    ),
+    (
+        "asm t import t signature: definitions:",
+        "t.asm: import cycle\n",
+    ),
+    (
+        "asm t import a/../t.asm signature: definitions:",
+        "t.asm: import cycle\n",
+    ),
+    ("asm t\n  #", "t.asm:2:3: unexpected byte\n"),
+    ("skip \u{e4}", "t.asm:1:6: unexpected byte\n"),
+    ("asm t !", "t.asm:1:7: unexpected byte\n"),
+    ("asm t $1", "t.asm:1:7: unexpected byte\n"),
+    ("asm t /* x", "t.asm:1:7: comment not closed\n"),
+    ("asm t /*/", "t.asm:1:7: comment not closed\n"),
+    ("// asm t", "t.asm:1:9: syntax error\n"),
+    ("asm t 2147483649", "t.asm:1:7: number too big\n"),
+    ("asm t 00000000002147483649", "t.asm:1:7: number too big\n"),
+    ("asm t 2147483648", "t.asm:1:7: syntax error\n"),
+    ("asm t", "t.asm:1:6: syntax error\n"),
+    ("asm t\n", "t.asm:2:1: syntax error\n"),
+    ("asm t\nwhile", "t.asm:2:1: not supported: while\n"),
+    (
+        "asm t signature: controlled x : Real",
+        "t.asm:1:33: not supported: Real\n",
+    ),
+    (
+        "asm t signature: controlled par : Boolean definitions:",
+        "t.asm:1:29: syntax error\n",
+    ),
+    (
+        "asm t signature: controlled self : Boolean definitions:",
+        "t.asm:1:29: not supported: self\n",
+    ),
+    (
+        "asm t signature: controlled X : Boolean definitions:",
+        "t.asm:1:29: syntax error\n",
+    ),
+    (
+        "module t signature: definitions: main rule r_M = skip",
+        "t.asm:1:34: syntax error\n",
+    ),
+    (
+        "asm t signature: definitions: default init s: x",
+        "t.asm:1:47: syntax error\n",
+    ),
+    ("module t signature: definitions:", "t.asm: not built yet\n"),
+    ("asm t signature: definitions:", "t.asm: not built yet\n"),
+    (
+        "asm t import StandardLibrary signature: definitions: main rule r_Main = skip default init s0:",
+        "t.asm: not built yet\n",
+    ),
+    (
+        "asm t signature: definitions: invariant over x : true main rule r_Main = skip default init s0:",
+        "t.asm: not built yet\n",
+    ),
+];
+
+#[test]
+fn each_fault_of_a_file_has_its_line(rt: HostRuntime) -> Result<(), Fail> {
+    let alloc = rt.alloc();
+    for (held, printed) in FAULTS {
+        let (exit, sink) = run(alloc, held, &["run", "t.asm"])?;
+        assert_eq!(rt; exit, Exit::Code(3), "{held}");
+        assert_eq!(rt; sink.bytes(), printed.as_bytes(), "{held}");
+    }
+    Ok(())
+}
+
+/// How many bytes of the text below are left, and the column at which the rest is refused; 0 where it is
+/// a unit, but no Boolean model.
+const CUTS: [(usize, usize); 17] = [
+    (0, 1),
+    (1, 1),
+    (3, 4),
+    (5, 6),
+    (10, 7),
+    (15, 16),
+    (16, 17),
+    (24, 18),
+    (29, 30),
+    (35, 36),
+    (51, 52),
+    (52, 0),
+    (56, 54),
+    (57, 58),
+    (65, 66),
+    (72, 73),
+    (76, 75),
+];
+
+#[test]
+fn each_cut_text_has_its_line(rt: HostRuntime) -> Result<(), Fail> {
+    let alloc = rt.alloc();
+    let whole =
+        "asm t signature: controlled x : Boolean definitions: main rule r_M = skip default init s0:";
+    for (count, column) in CUTS {
+        let (exit, sink) = run(alloc, &whole[..count], &["run", "t.asm"])?;
+        let printed = if column == 0 {
+            String::from_str(alloc, "t.asm: not built yet\n")?
+        } else {
+            format!(in alloc; "t.asm:1:{column}: syntax error\n")?
+        };
+        assert_eq!(rt; exit, Exit::Code(3), "{count}");
+        assert_eq!(rt; sink.bytes(), printed.as_bytes(), "{count}");
+    }
+    let (exit, _) = run(alloc, whole, &["run", "t.asm"])?;
+    assert_eq!(rt; exit, Exit::Code(0));
+    Ok(())
+}
+
+/// What stands in the place of the main rule of the first model of `RUNS`, to the end of the text, and
+/// the line of its run.
+const ENDS: [(&str, &str); 2] = [
+    ("par x := y y := x endp", "t.asm:7:23: syntax error\n"),
+    ("par x := y y := x ", "t.asm:7:19: syntax error\n"),
+];
+
+#[test]
+fn each_cut_rule_has_its_line(rt: HostRuntime) -> Result<(), Fail> {
+    let alloc = rt.alloc();
+    for (rule, printed) in ENDS {
+        let held = format!(in alloc;
+            "asm t\nsignature:\ncontrolled x : Boolean controlled y : Boolean\ndefinitions:\n\nmain rule r_Main =\n{rule}"
+        )?;
+        let (exit, sink) = run(alloc, &held, &["run", "t.asm"])?;
+        assert_eq!(rt; exit, Exit::Code(3), "{rule}");
+        assert_eq!(rt; sink.bytes(), printed.as_bytes(), "{rule}");
+    }
+    Ok(())
+}
+
+/// A file `t.asm` that imports others, which import others, and the line of its run.
+const IMPORTS: [(&str, &str, &str, &str); 5] = [
+    (
+        "asm t import u signature: definitions:",
+        "module u import v signature: definitions:",
+        "module v signature: definitions: x",
+        "v.asm:1:34: syntax error\n",
+    ),
+    (
+        "asm t import u signature: definitions:",
+        "module u import v signature: definitions:",
+        "module v import u signature: definitions:",
+        "u.asm: import cycle\n",
+    ),
+    (
+        "asm t import u import v signature: definitions:",
+        "module u import v signature: definitions:",
+        "module v signature: definitions:",
+        "t.asm: not built yet\n",
+    ),
+    (
+        "asm t import u import w signature: definitions:",
+        "module u import v signature: definitions:",
+        "module v signature: definitions: #",
+        "v.asm:1:34: unexpected byte\n",
+    ),
+    (
+        "asm t import w import u signature: definitions:",
+        "module u",
+        "",
+        "w.asm: no such file\n",
+    ),
+];
+
+#[test]
+fn imports_are_read_in_order(rt: HostRuntime) -> Result<(), Fail> {
+    let alloc = rt.alloc();
+    for (t, u, v, printed) in IMPORTS {
+        let files = [("t.asm", t), ("u.asm", u), ("v.asm", v)];
+        let (exit, sink) = answer(alloc, &files, &["run", "t.asm"])?;
+        assert_eq!(rt; exit, Exit::Code(3), "{t} {u} {v}");
+        assert_eq!(rt; sink.bytes(), printed.as_bytes(), "{t} {u} {v}");
+    }
+    Ok(())
+}
+
+/// How a run of `t0.asm` ends, where each of so many files imports the next, and what it prints.
+fn chain(alloc: Global, count: usize) -> Result<(Exit, NoFaultSink), Fail> {
+    let mut shelf = NoFaultShelf::new(alloc);
+    for number in 0..count {
+        let name = format!(in alloc; "t{number}.asm")?;
+        let next = number.saturating_add(1);
+        let import = if next < count {
+            format!(in alloc; "import t{next}")?
+        } else {
+            String::new(alloc)
+        };
+        let held = format!(in alloc; "asm t {import} signature: definitions:")?;
+        shelf.add(alloc, &name, held.as_bytes())?;
+    }
+    let mut sink = NoFaultSink::new(alloc);
+    let words = words(alloc, &["run", "t0.asm"])?;
+    let exit = asmeta(alloc, &words, &mut shelf, &mut sink);
+    Ok((exit, sink))
+}
+
+#[test]
+fn at_most_64_files_are_read(rt: HostRuntime) -> Result<(), Fail> {
+    let alloc = rt.alloc();
+    for (count, printed) in [
+        (64, "t0.asm: not built yet\n"),
+        (65, "t64.asm: too many files\n"),
+    ] {
+        let (exit, sink) = chain(alloc, count)?;
+        assert_eq!(rt; exit, Exit::Code(3), "{count} files");
+        assert_eq!(rt; sink.bytes(), printed.as_bytes(), "{count} files");
+    }
+    Ok(())
+}
+
+/// A file, with the code and what `format` prints of it.
+const FORMATS: [(&str, u8, &str); 9] = [
+    (
+        "asm t signature: dynamic controlled x : Boolean definitions: main rule r_Main = if eq(x,true) then x := not(x) endif default init s0: function x = (true)",
+        0,
+        "asm t\nsignature:\n  controlled x : Boolean\ndefinitions:\nmain rule r_Main =\n  if x = true then\n    x := not x\n  else\n    skip\n  endif\ndefault init s0:\n  function x = true\n",
+    ),
+    (
+        "asm t signature: definitions: function p = (a implies b) implies c",
+        0,
+        "asm t\nsignature:\ndefinitions:\n  function p = (a implies b) implies c\n",
+    ),
+    (
+        "asm t signature: definitions: function p = a implies (b implies c)",
+        0,
+        "asm t\nsignature:\ndefinitions:\n  function p = a implies b implies c\n",
+    ),
+    (
+        "module t import u export * signature: definitions: // no such file\ndomain D = {01:3}",
+        0,
+        "module t\nimport u\nsignature:\ndefinitions:\n  domain D = {1..3}\n",
+    ),
+    (
+        "asm t import t signature: definitions:",
+        0,
+        "asm t\nimport t\nsignature:\ndefinitions:\n",
+    ),
+    ("", 3, "t.asm:1:1: syntax error\n"),
+    ("asm t /* x", 3, "t.asm:1:7: comment not closed\n"),
+    (
+        "asm t signature: controlled x : Real",
+        3,
+        "t.asm:1:33: not supported: Real\n",
+    ),
+    (
+        "asm t signature: definitions: function p = a = b = c",
+        3,
+        "t.asm:1:50: syntax error\n",
+    ),
+];
+
+#[test]
+fn each_file_has_its_canonical_text(rt: HostRuntime) -> Result<(), Fail> {
+    let alloc = rt.alloc();
+    for (held, code, printed) in FORMATS {
+        let (exit, sink) = run(alloc, held, &["format", "t.asm"])?;
+        assert_eq!(rt; exit, Exit::Code(code), "{held}");
+        assert_eq!(rt; sink.bytes(), printed.as_bytes(), "{held}");
     }
     Ok(())
 }
@@ -184,6 +481,18 @@ fn each_limit_is_kept(rt: HostRuntime) -> Result<(), Fail> {
         let (exit, _) = run(alloc, &held, &["run", "t.asm", "--steps", "1"])?;
         assert_eq!(rt; exit, Exit::Code(code), "nested {count} times");
     }
+    for (count, printed) in [
+        (64, "t.asm:8:1: syntax error\n"),
+        (65, "t.asm:7:70: nested too deep\n"),
+    ] {
+        let rule = format!(in alloc; "x := {}", repeated(alloc, "(", count)?)?;
+        let held = model(alloc, "controlled x : Boolean", &rule, "")?;
+        for command in ["run", "format"] {
+            let (exit, sink) = run(alloc, &held, &[command, "t.asm"])?;
+            assert_eq!(rt; exit, Exit::Code(3), "{count} parentheses");
+            assert_eq!(rt; sink.bytes(), printed.as_bytes(), "{count} parentheses");
+        }
+    }
     for (count, code) in [(4096, 0), (4097, 3)] {
         let held = model(alloc, &functions(alloc, count)?, "skip", "")?;
         let (exit, _) = run(alloc, &held, &["run", "t.asm", "--steps", "1"])?;
@@ -216,6 +525,29 @@ fn faults_end_the_call(rt: HostRuntime) -> Result<(), Fail> {
         );
         assert_eq!(rt; sink.bytes(), printed.as_bytes(), "{call}, {taken}");
     }
+    Ok(())
+}
+
+#[test]
+fn faults_end_a_format(rt: HostRuntime) -> Result<(), Fail> {
+    let alloc = rt.alloc();
+    let words = words(alloc, &["format", "t.asm"])?;
+    let mut shelf = MemoryShelf::new(alloc);
+    shelf.add(alloc, "t.asm", b"module t signature: definitions:")?;
+    shelf.fail(1)?;
+    let mut sink = MemorySink::new(alloc);
+    assert_eq!(rt;
+        asmeta(alloc, &words, &mut shelf, &mut sink),
+        Exit::ReadFault
+    );
+    assert_eq!(rt; sink.bytes(), b"".as_slice());
+    sink.fail(1)?;
+    sink.taken(4);
+    assert_eq!(rt;
+        asmeta(alloc, &words, &mut shelf, &mut sink),
+        Exit::WriteFault
+    );
+    assert_eq!(rt; sink.bytes(), b"modu".as_slice());
     Ok(())
 }
 

@@ -5,13 +5,13 @@ ghost use Rattle.asm_cli.specs.Exit.{OnCode, OnFault};
 ghost use Rattle.asm_cli.specs.Words.{IsBadWords};
 ghost use Rattle.asm_cli.specs.Answer.{answer, OneAnswer, Prints, PrintsPart, HasFileFault, IsDone, IsStopped};
 
-use crate::command::asked;
+use crate::command::{Task, asked};
 use crate::exit::Exit;
-use crate::run::run_file;
+use crate::format::format_file;
+use crate::run::run_model;
 use crate::say::say;
 use asm_io::{Shelf, Sink};
 use asm_list::Name;
-use asm_unit::normalised;
 use std::alloc::Global;
 
 /// Does all that the program does, and answers how it ends. The words are those of the command line
@@ -56,9 +56,7 @@ fn command<S: Shelf, K: Sink>(alloc: Global, words: &[Name], shelf: &mut S, sink
 {
     match asked(words) {
         None => say(sink, b"asmeta: bad arguments\n", 2),
-        Some(run) => match normalised(alloc, run.model) {
-            Ok(name) => run_file(alloc, name, run.steps, shelf, sink),
-            Err(_) => Exit::Memory,
-        },
+        Some(Task::Run(run)) => run_model(alloc, run.model, run.steps, shelf, sink),
+        Some(Task::Format(model)) => format_file(alloc, model, shelf, sink),
     }
 }

@@ -57,6 +57,10 @@ held_as of limit name sources (Some text) = if nat_lt limit (length text) then r
 abbrev pub tokens_in : Files → ℕ → List ℕ → List Source → Outcome (List Token)
 tokens_in files limit name sources = held_as tokens_of limit (normalised name) sources (get files (normalised name))
 
+-- the unit of the file of this name, without its imports
+abbrev pub unit_in : Files → List ℕ → List Source → Outcome RawUnit
+unit_in files name sources = held_as tree_of most_bytes (normalised name) sources (get files (normalised name))
+
 -- ---- the files of a model
 
 -- what comes of a file's name where these files were read and these units are loaded

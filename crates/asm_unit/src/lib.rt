@@ -4,13 +4,19 @@
 mod error;
 mod import;
 mod laws;
+mod load;
 mod one;
+mod parse;
 mod path;
+mod spelled;
 #[cfg(test)]
 mod tests;
+mod whole;
 
 pub use error::LoadError;
 pub use import::{import_name, reads_no_file};
-pub use laws::parsed_is_spelled;
+pub use laws::{levels_suffice, parsed_is_spelled};
+pub use load::{load_all, load_unit};
 pub use one::load_one;
+pub use parse::unit;
 pub use path::normalised;

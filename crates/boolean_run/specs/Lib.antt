@@ -1,3 +1,4 @@
+pub mod Plain
 pub mod Machine
 pub mod Printed
 pub mod Printing

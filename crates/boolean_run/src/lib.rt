@@ -3,6 +3,7 @@
 
 mod machine;
 mod names;
+mod plain;
 mod print;
 mod resolve;
 mod run;

@@ -1,11 +1,14 @@
 //! The machine of a unit.
-ghost use Rattle.std.specs.Prelude.{◌≡◌, IfOk, IsErrOf, Some, None, map};
+ghost use Rattle.std.specs.Prelude.{◌≡◌, IfOk, map};
+ghost use Rattle.boolean_run.specs.Resolved.{Resolves};
 ghost use Rattle.boolean_run.specs.Machine as spec;
 
 use crate::names::{are_declared, are_distinct, are_initials_distinct, find_initial};
+use crate::plain::{Initial, functions_of, initials_of, is_plain};
 use crate::resolve::rule_of;
 use asm_list::{Listed, Name};
-use boolean_body::tree::{RawInitial, RawTermKind, RawUnit};
+use asm_tree::rule::RawRule;
+use asm_tree::unit::RawUnit;
 use boolean_fire::{Rule, Value};
 use std::alloc::{AllocError, Global};
 
@@ -40,28 +43,45 @@ impl From<AllocError> for MachineError {
 }
 
 /// The machine of a unit.
-pub fn machine_of(alloc: Global, unit: RawUnit) -> Result<Machine, MachineError>
-    ensures ok { IfOk result (λ machine. spec.machine_of unit ≡ Some machine) }
-    ensures not_built { IsErrOf result MachineError.NotBuilt → spec.machine_of unit ≡ None }
+pub fn machine_of(alloc: Global, unit: &RawUnit) -> Result<Machine, MachineError>
+    ensures { Resolves result (spec.machine_of unit.now) }
 {
-    if !is_sound(&unit) {
+    if !is_plain(unit) {
         return Err(MachineError::NotBuilt);
     }
-    let main = rule_of(alloc, unit.functions.slice(), &unit.rule)?;
-    let initial = initial_values(alloc, unit.functions.slice(), unit.initials.slice())?;
+    let functions = functions_of(alloc, unit.declarations.slice())?;
+    let initials = initials_of(alloc, &unit.init)?;
+    match &unit.main {
+        None => Err(MachineError::NotBuilt),
+        Some(main) => machine_from(alloc, functions, &initials, &main.rule),
+    }
+}
+
+/// The machine of these parts.
+fn machine_from(
+    alloc: Global,
+    functions: Listed<Name>,
+    initials: &Listed<Initial>,
+    rule: &RawRule,
+) -> Result<Machine, MachineError>
+    ensures { Resolves result (spec.machine_from functions initials.now rule.now) }
+{
+    if !is_sound(functions.slice(), initials.slice()) {
+        return Err(MachineError::NotBuilt);
+    }
+    let main = rule_of(alloc, functions.slice(), rule)?;
+    let initial = initial_values(alloc, functions.slice(), initials.slice())?;
     Ok(Machine {
-        functions: unit.functions,
+        functions,
         initial,
         main,
     })
 }
 
 /// Whether no name stands where it may not, and there are not too many functions.
-fn is_sound(unit: &RawUnit) -> bool
-    ensures { result ≡ spec.is_sound unit.now }
+fn is_sound(names: &[Name], initials: &[Initial]) -> bool
+    ensures { result ≡ spec.is_sound names.now initials.now }
 {
-    let names = unit.functions.slice();
-    let initials = unit.initials.slice();
     names.len() <= MOST_FUNCTIONS
         && are_distinct(names)
         && are_initials_distinct(initials)
@@ -72,7 +92,7 @@ fn is_sound(unit: &RawUnit) -> bool
 fn initial_values(
     alloc: Global,
     names: &[Name],
-    initials: &[RawInitial],
+    initials: &[Initial],
 ) -> Result<Listed<Value>, AllocError>
     ensures { IfOk result (λ values. values ≡ map (spec.initial_of initials.now) names.now) }
 {
@@ -85,21 +105,11 @@ fn initial_values(
 }
 
 /// The initial value of the function of this name.
-fn initial_value(initials: &[RawInitial], name: &Name) -> Value
+fn initial_value(initials: &[Initial], name: &Name) -> Value
     ensures { result ≡ spec.initial_of initials.now name.now }
 {
     match find_initial(initials, name) {
         None => Value::Undef,
-        Some(initial) => constant_of(&initial.value.kind),
-    }
-}
-
-/// The value of a constant.
-fn constant_of(kind: &RawTermKind) -> Value
-    ensures { result ≡ spec.constant_of kind.now }
-{
-    match kind {
-        RawTermKind::Truth(truth) => Value::Bool(*truth),
-        RawTermKind::Undef | RawTermKind::Read(_) => Value::Undef,
+        Some(initial) => initial.value,
     }
 }

@@ -4,8 +4,8 @@ ghost use Rattle.std.specs.Option.{option_copied};
 ghost use Rattle.std.specs.List.{list_all};
 ghost use Rattle.boolean_run.specs.Machine as spec;
 
+use crate::plain::Initial;
 use asm_list::Name;
-use boolean_body::tree::RawInitial;
 
 /// The place of the first function of this name.
 pub fn place_of(names: &[Name], name: &Name) -> Option<usize>
@@ -37,7 +37,7 @@ pub fn are_distinct(names: &[Name]) -> bool
 }
 
 /// Whether no function has two initial values.
-pub fn are_initials_distinct(initials: &[RawInitial]) -> bool
+pub fn are_initials_distinct(initials: &[Initial]) -> bool
     ensures { result ≡ spec.initials_distinct initials.now }
 {
     let mut rest = initials;
@@ -51,7 +51,7 @@ pub fn are_initials_distinct(initials: &[RawInitial]) -> bool
 }
 
 /// Whether the function of this name has an initial value among these.
-fn has_initial(initials: &[RawInitial], name: &Name) -> bool
+fn has_initial(initials: &[Initial], name: &Name) -> bool
     ensures { result ≡ spec.has_initial initials.now name.now }
 {
     initials
@@ -60,7 +60,7 @@ fn has_initial(initials: &[RawInitial], name: &Name) -> bool
 }
 
 /// Whether each function with an initial value is declared.
-pub fn are_declared(names: &[Name], initials: &[RawInitial]) -> bool
+pub fn are_declared(names: &[Name], initials: &[Initial]) -> bool
     ensures { result ≡ list_all (λ i. spec.has_name names.now i.name) initials.now }
 {
     initials
@@ -69,7 +69,7 @@ pub fn are_declared(names: &[Name], initials: &[RawInitial]) -> bool
 }
 
 /// The initial value of the function of this name, if it has one.
-pub fn find_initial<'a>(initials: &'a [RawInitial], name: &Name) -> Option<&'a RawInitial>
+pub fn find_initial<'a>(initials: &'a [Initial], name: &Name) -> Option<&'a Initial>
     ensures { option_copied result ≡ find (λ i. spec.same_name i.name name.now) initials.now }
 {
     initials

@@ -1,12 +1,14 @@
 //! Rules over locations.
 ghost use Rattle.std.specs.Prelude.{◌≡◌, ◌<◌, ◌^◌, length, map};
 ghost use Rattle.boolean_run.specs.Machine as spec;
+ghost use Rattle.boolean_run.specs.Plain.{each_of};
 ghost use Rattle.boolean_run.specs.Resolved.{Resolves};
 
 use crate::machine::MachineError;
 use crate::names;
 use asm_list::{Boxed, Listed, Name};
-use boolean_body::tree::{RawRule, RawRuleKind, RawTerm, RawTermKind};
+use asm_tree::rule::{RawRule, RawRuleKind};
+use asm_tree::term::{RawTerm, RawTermKind};
 use boolean_fire::{Rule, Term, Value};
 use std::alloc::Global;
 
@@ -29,10 +31,11 @@ fn term_of(names: &[Name], term: &RawTerm) -> Result<Term, MachineError>
     match &term.kind {
         RawTermKind::Truth(truth) => Ok(Term::Constant(Value::Bool(*truth))),
         RawTermKind::Undef => Ok(Term::Constant(Value::Undef)),
-        RawTermKind::Read(name) => {
+        RawTermKind::Call(name, arguments) if arguments.is_empty() => {
             let place = place_of(names, name)?;
             Ok(Term::Read(place))
         }
+        _ => Err(MachineError::NotBuilt),
     }
 }
 
@@ -44,7 +47,7 @@ pub fn rule_of(alloc: Global, names: &[Name], rule: &RawRule) -> Result<Rule, Ma
 {
     match &rule.kind {
         RawRuleKind::Skip => Ok(Rule::Skip),
-        RawRuleKind::Update(name, term) => {
+        RawRuleKind::Update(name, arguments, term) if arguments.is_empty() => {
             let place = place_of(names, name)?;
             let term = term_of(names, term)?;
             Ok(Rule::Update(place, term))
@@ -64,6 +67,7 @@ pub fn rule_of(alloc: Global, names: &[Name], rule: &RawRule) -> Result<Rule, Ma
                 Boxed::new(alloc, fails)?,
             ))
         }
+        _ => Err(MachineError::NotBuilt),
     }
 }
 
@@ -71,7 +75,7 @@ pub fn rule_of(alloc: Global, names: &[Name], rule: &RawRule) -> Result<Rule, Ma
 #[cycle(rule)]
 fn rules_of(alloc: Global, names: &[Name], rules: &[RawRule]) -> Result<Listed<Rule>, MachineError>
     requires { length names.now < 2 ^ 32 }
-    ensures { Resolves result (spec.each_of (map (spec.rule_of names.now) rules.now)) }
+    ensures { Resolves result (each_of (map (spec.rule_of names.now) rules.now)) }
 {
     let mut parts = Listed::new(alloc);
     'parts: for rule in rules {

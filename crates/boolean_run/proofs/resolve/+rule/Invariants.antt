@@ -1,6 +1,7 @@
 use Rattle.std.proofs.Common.{◌≡◌, ◌++◌, drop}
 use Rattle.std.specs.Prelude.{map, option_map}
-use Rattle.boolean_run.specs.Machine.{rule_of, each_of}
+use Rattle.boolean_run.specs.Machine.{rule_of}
+use Rattle.boolean_run.specs.Plain.{each_of}
 use Rattle.boolean_run.proofs.resolve.+rule.Given as goal
 
 -- the parts so far, and those that are left

@@ -1,0 +1,44 @@
+-- What is printed of a file's fault.
+use Rattle.std.specs.Prelude.{ℕ, List, [], ◌++◌, drop, take_while, slice_get, codes}
+use Rattle.asm_io.specs.declared.sources.Source.{Source}
+use Rattle.asm_io.specs.declared.sources.Place.{Place}
+use Rattle.asm_io.specs.Spots.{spot_at, text_of}
+use Rattle.asm_lex.specs.Cut.{in_word}
+use Rattle.asm_lex.specs.declared.error.LexError.{LexError}
+use Rattle.asm_lex.specs.declared.error.LexError.TheVariants as lex
+use Rattle.asm_tree.specs.declared.error.ParseError.{ParseError}
+use Rattle.asm_tree.specs.declared.error.ParseError.TheVariants as parse
+use Rattle.boolean_run.specs.Printed.{file_name, spot_text}
+use Rattle.asm_unit.specs.declared.error.LoadError.{LoadError}
+use Rattle.asm_unit.specs.declared.error.LoadError.TheVariants.{Absent, TooLong, Read, Lex, Parse, ImportCycle, TooManyFiles, Memory}
+
+-- a place as `FILE:LINE:COLUMN`
+abbrev pub place_text : List Source → Place → List ℕ
+place_text sources place = file_name (slice_get sources place.file) ++ codes ":" ++ spot_text (spot_at (text_of sources place.file) place.at)
+
+abbrev pub lex_message : LexError → List ℕ
+lex_message (lex.BadByte at) = codes ": unexpected byte"
+lex_message (lex.OpenComment at) = codes ": comment not closed"
+lex_message (lex.NumberTooBig at) = codes ": number too big"
+lex_message lex.Memory = []
+
+-- the letters, digits and `_` from a place on
+abbrev pub word_at : List ℕ → ℕ → List ℕ
+word_at text at = take_while in_word (drop at text)
+
+abbrev pub parse_message : List ℕ → ParseError → List ℕ
+parse_message word (parse.Syntax k) = codes ": syntax error"
+parse_message word (parse.Unsupported k) = codes ": not supported: " ++ word
+parse_message word (parse.TooDeep k) = codes ": nested too deep"
+parse_message word parse.Memory = []
+
+-- the line of a fault, without its end; an outside fault and want of memory have none
+abbrev pub fault_text : List Source → LoadError → List ℕ
+fault_text sources (Absent name) = name ++ codes ": no such file"
+fault_text sources (TooLong name) = name ++ codes ": too long"
+fault_text sources (Read name) = []
+fault_text sources (Lex place e) = place_text sources place ++ lex_message e
+fault_text sources (Parse place e) = place_text sources place ++ parse_message (word_at (text_of sources place.file) place.at) e
+fault_text sources (ImportCycle name) = name ++ codes ": import cycle"
+fault_text sources (TooManyFiles name) = name ++ codes ": too many files"
+fault_text sources Memory = []

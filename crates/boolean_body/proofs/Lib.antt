@@ -1,9 +1,0 @@
-pub mod Tables
-pub mod TokenKinds
-pub mod Checks
-pub mod Opening
-pub mod Starts
-pub mod Ending
-pub mod Ascii
-pub mod Verdicts
-pub mod Making

@@ -109,7 +109,7 @@ module _ (l : Language) where
   many_past {A} p fs bd n b w h f = subst (λ (o : Outcome l (List A)). Within (length w) o)
       (sym (if_yes (has (kind l b) fs) (and_then l (p (b ∷ w)) (λ x r. and_then l {B = List A} (many_at l p fs n r) (λ xs s. Ok (x ∷ xs, s)))) (Ok ([], b ∷ w)) h))
       (within_then {B = List A} (length w) (p (b ∷ w)) (λ x r. and_then l {B = List A} (many_at l p fs n r) (λ xs s. Ok (x ∷ xs, s))) f
-          (λ x r le. within_then {B = List A} (length w) (many_at l p fs n r) (λ xs s. Ok (x ∷ xs, s)) (within_more (length r) (length w) le (many_at l p fs n r) (many_bound p fs bd n r)) (λ xs s q. q)))
+      (λ x r le. within_then {B = List A} (length w) (many_at l p fs n r) (λ xs s. Ok (x ∷ xs, s)) (within_more (length r) (length w) le (many_at l p fs n r) (many_bound p fs bd n r)) (λ xs s q. q)))
 
   none_left_over : (r : Tokens) → length r ≤ 0 → r ≡ []
   none_left_over [] le = refl

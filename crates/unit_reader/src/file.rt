@@ -121,22 +121,18 @@ fn closing(
     Ok((None, init, rest))
 }
 
-/// The imports, declarations and definitions.
+/// What stands behind the name of a file.
+#[derive(Drop)]
+struct Parts {
+    imports: Listed<RawPath>,
+    declarations: Listed<RawDeclaration>,
+    definitions: Listed<RawDefinition>,
+}
+
+/// The imports, declarations and definitions. What is exported is read and let go.
 #[tactic(auto, using(crate::proofs::Opened::content_parts), unfolding(asm_tree::specs::Units::content))]
-fn content(
-    alloc: Global,
-    tokens: &[Lexeme],
-    levels: usize,
-) -> Result<
-    (
-        Listed<RawPath>,
-        Listed<RawDeclaration>,
-        Listed<RawDefinition>,
-        &[Lexeme],
-    ),
-    Stop,
->
-    ensures { Gives models (λ x. ((x.0, (x.1, x.2)), all_seen x.3.now)) result (read_in levels false units.content (all_seen tokens.now)) }
+fn content(alloc: Global, tokens: &[Lexeme], levels: usize) -> Result<(Parts, &[Lexeme]), Stop>
+    ensures { Gives models (λ x. ((x.0.imports, (x.0.declarations, x.0.definitions)), all_seen x.1.now)) result (read_in levels false units.content (all_seen tokens.now)) }
 {
     let (imports, rest) = imports(alloc, tokens)?;
     let (_exported, rest) = export(alloc, rest)?;
@@ -146,7 +142,14 @@ fn content(
     let (_, rest) = expect(rest, Class::Definitions)?;
     let (_, rest) = expect(rest, Class::Colon)?;
     let (definitions, rest) = definitions(alloc, rest, levels)?;
-    Ok((imports, declarations, definitions, rest))
+    Ok((
+        Parts {
+            imports,
+            declarations,
+            definitions,
+        },
+        rest,
+    ))
 }
 
 fn asm(alloc: Global, tokens: &[Lexeme], levels: usize) -> Result<(RawUnit, &[Lexeme]), Stop>
@@ -154,15 +157,15 @@ fn asm(alloc: Global, tokens: &[Lexeme], levels: usize) -> Result<(RawUnit, &[Le
 {
     let (_, rest) = expect(tokens, Class::Asm)?;
     let (name, rest) = any_word(alloc, rest)?;
-    let (imports, declarations, definitions, rest) = content(alloc, rest, levels)?;
+    let (parts, rest) = content(alloc, rest, levels)?;
     let (main, init, rest) = closing(alloc, rest, levels)?;
     Ok((
         RawUnit {
             kind: RawUnitKind::Asm,
             name,
-            imports,
-            declarations,
-            definitions,
+            imports: parts.imports,
+            declarations: parts.declarations,
+            definitions: parts.definitions,
             main,
             init,
         },
@@ -175,14 +178,14 @@ fn module(alloc: Global, tokens: &[Lexeme], levels: usize) -> Result<(RawUnit, &
 {
     let (_, rest) = expect(tokens, Class::Module)?;
     let (name, rest) = any_word(alloc, rest)?;
-    let (imports, declarations, definitions, rest) = content(alloc, rest, levels)?;
+    let (parts, rest) = content(alloc, rest, levels)?;
     Ok((
         RawUnit {
             kind: RawUnitKind::Module,
             name,
-            imports,
-            declarations,
-            definitions,
+            imports: parts.imports,
+            declarations: parts.declarations,
+            definitions: parts.definitions,
             main: None,
             init: None,
         },

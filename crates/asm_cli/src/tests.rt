@@ -26,12 +26,12 @@ fn words(alloc: Global, texts: &[&str]) -> Result<Vec<Name>, Fail> {
 /// How a command over these files ends, and what it prints.
 fn answer(
     alloc: Global,
-    files: &[(&str, &str)],
+    files: &[(&str, &[u8])],
     texts: &[&str],
 ) -> Result<(Exit, NoFaultSink), Fail> {
     let mut shelf = NoFaultShelf::new(alloc);
     for (name, held) in files {
-        shelf.add(alloc, name, held.as_bytes())?;
+        shelf.add(alloc, name, held)?;
     }
     let mut sink = NoFaultSink::new(alloc);
     let words = words(alloc, texts)?;
@@ -41,7 +41,7 @@ fn answer(
 
 /// How a command over the one file `t.asm` ends, and what it prints.
 fn run(alloc: Global, held: &str, texts: &[&str]) -> Result<(Exit, NoFaultSink), Fail> {
-    answer(alloc, &[("t.asm", held)], texts)
+    answer(alloc, &[("t.asm", held.as_bytes())], texts)
 }
 
 /// Signature, main rule, initial values and steps, with the code and what is printed.
@@ -279,7 +279,8 @@ fn each_cut_text_has_its_line(rt: HostRuntime) -> Result<(), Fail> {
     let whole =
         "asm t signature: controlled x : Boolean definitions: main rule r_M = skip default init s0:";
     for (count, column) in CUTS {
-        let (exit, sink) = run(alloc, &whole[..count], &["run", "t.asm"])?;
+        let cut = &whole.as_bytes()[..count.min(whole.len())];
+        let (exit, sink) = answer(alloc, &[("t.asm", cut)], &["run", "t.asm"])?;
         let printed = if column == 0 {
             String::from_str(alloc, "t.asm: not built yet\n")?
         } else {
@@ -352,7 +353,11 @@ const IMPORTS: [(&str, &str, &str, &str); 5] = [
 fn imports_are_read_in_order(rt: HostRuntime) -> Result<(), Fail> {
     let alloc = rt.alloc();
     for (t, u, v, printed) in IMPORTS {
-        let files = [("t.asm", t), ("u.asm", u), ("v.asm", v)];
+        let files = [
+            ("t.asm", t.as_bytes()),
+            ("u.asm", u.as_bytes()),
+            ("v.asm", v.as_bytes()),
+        ];
         let (exit, sink) = answer(alloc, &files, &["run", "t.asm"])?;
         assert_eq!(rt; exit, Exit::Code(3), "{t} {u} {v}");
         assert_eq!(rt; sink.bytes(), printed.as_bytes(), "{t} {u} {v}");

@@ -1,6 +1,10 @@
-use crate::{LoadError, import_name, load_one, normalised, reads_no_file};
+ghost use Rattle.std.specs.Prelude.{◌≤◌, length};
+
+use crate::{
+    LoadError, import_name, load_all, load_one, load_unit, normalised, reads_no_file, unit,
+};
 use asm_io::{NoFaultShelf, Place, Sources};
-use asm_lex::LexError;
+use asm_lex::{LexError, lex};
 use asm_list::{Listed, Name};
 use asm_tree::unit::{RawPart, RawPath};
 use std::alloc::Global;
@@ -81,5 +85,52 @@ fn one_file_is_read(rt: HostRuntime) -> Result<(), Fail> {
     let bad = refusal(alloc, &mut shelf, "bad");
     let place = Place { file: 0, at: 2 };
     assert!(rt; matches!(&bad, Some(LoadError::Lex(at, LexError::BadByte(2))) if *at == place));
+    Ok(())
+}
+
+/// How many imports the unit of this text has, if it is one.
+fn imports_in(alloc: Global, text: &[u8]) -> Option<usize>
+    requires { length text.now ≤ 1048576 }
+{
+    match lex(alloc, text) {
+        Ok(tokens) => match unit(alloc, text, tokens.slice()) {
+            Ok(unit) => Some(unit.imports.len()),
+            Err(_error) => None,
+        },
+        Err(_error) => None,
+    }
+}
+
+/// How many imports the unit of this file has, if it is one.
+fn imports_of(alloc: Global, shelf: &mut NoFaultShelf, name: &str) -> Option<usize> {
+    let mut sources = Sources::new(alloc);
+    match load_unit(alloc, shelf, name, &mut sources) {
+        Ok(unit) => Some(unit.get().imports.len()),
+        Err(_error) => None,
+    }
+}
+
+/// How many units the model of this file has, if all its files are units.
+fn units_of(alloc: Global, shelf: &mut NoFaultShelf, name: &str) -> Option<usize> {
+    let mut sources = Sources::new(alloc);
+    match load_all(alloc, shelf, name, &mut sources) {
+        Ok(units) => Some(units.len()),
+        Err(_error) => None,
+    }
+}
+
+#[test]
+fn texts_and_files_are_units(rt: HostRuntime) -> Result<(), Fail> {
+    let alloc = rt.alloc();
+    let one = b"asm t import u import v signature: definitions:".as_slice();
+    assert_eq!(rt; imports_in(alloc, one), Some(2));
+    assert_eq!(rt; imports_in(alloc, b"asm t import"), None);
+    let mut shelf = NoFaultShelf::new(alloc);
+    shelf.add(alloc, "t.asm", one)?;
+    shelf.add(alloc, "u.asm", b"module u import v signature: definitions:")?;
+    assert_eq!(rt; imports_of(alloc, &mut shelf, "./t.asm"), Some(2));
+    assert_eq!(rt; units_of(alloc, &mut shelf, "t.asm"), None);
+    shelf.add(alloc, "v.asm", b"module v signature: definitions:")?;
+    assert_eq!(rt; units_of(alloc, &mut shelf, "t.asm"), Some(3));
     Ok(())
 }

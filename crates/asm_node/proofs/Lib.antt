@@ -1,10 +1,14 @@
 pub mod ChoosingPaths
 pub mod ChoosingWords
+pub mod Chosen
 pub mod Closed
+pub mod ClosedExact
+pub mod Closing
 pub mod Continuing
 pub mod Exactly
 pub mod Extending
 pub mod Filling
+pub mod Growing
 pub mod Inputs
 pub mod Listing
 pub mod Pools
@@ -13,6 +17,8 @@ pub mod Revising
 pub mod Rows
 pub mod Sameness
 pub mod Shared
+pub mod Staying
 pub mod TermRows
+pub mod Trees
 pub mod UpdateSets
 pub mod Valued

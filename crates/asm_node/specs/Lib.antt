@@ -1,3 +1,4 @@
+pub mod Choices
 pub mod Choosing
 pub mod Env
 pub mod Exact
@@ -8,6 +9,7 @@ pub mod Model
 pub mod Pool
 pub mod Ranges
 pub mod RuleTree
+pub mod Stays
 pub mod Step
 pub mod Taking
 pub mod Term

@@ -1,5 +1,5 @@
 -- A model of the program as a record of plain lists and trees.
-use Rattle.std.specs.Prelude.{map}
+use Rattle.std.specs.Prelude.{◌≡◌, map}
 use Rattle.asm_node.specs.declared.model.Model.{Model}
 use Rattle.asm_node.specs.declared.model.Definition.{Definition}
 use Rattle.asm_node.specs.declared.model.MacroRule.{MacroRule}
@@ -23,3 +23,12 @@ machine_of model = record {
   invariants = map (λ t. plain t.value) model.invariants;
   main = plain_rule model.main.value;
 }
+
+-- nothing of a model changes but its pool
+pub record DiffersInPool (old new : Model) : Type 0 where
+  pub signature : new.signature ≡ old.signature
+  pub main : new.main ≡ old.main
+  pub invariants : new.invariants ≡ old.invariants
+  pub initial_terms : new.initial_terms ≡ old.initial_terms
+  pub definitions : new.definitions ≡ old.definitions
+  pub rules : new.rules ≡ old.rules

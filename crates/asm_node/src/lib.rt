@@ -1,7 +1,9 @@
 //! Terms and rules as nodes, and what they mean.
 #![tactic(auto)]
 
+mod choices;
 mod choosing_law;
+mod close_term;
 mod env;
 mod extending_law;
 mod input;
@@ -17,10 +19,12 @@ mod term;
 mod tests;
 mod words;
 
+pub use choices::Choices;
 pub use choosing_law::words_are_choices;
+pub use close_term::close;
 pub use env::{Binding, Env};
 pub use extending_law::steps_extend;
-pub use input::Input;
+pub use input::{Input, Inputs};
 pub use model::{Definition, Definitions, InitialTerms, MacroRule, Model, Rules, Terms};
 pub use operator::{Op, Quantifier};
 pub use path::{Path, Step, Values};

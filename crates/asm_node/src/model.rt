@@ -1,14 +1,20 @@
-ghost use Rattle.std.specs.Prelude.{◌≡◌, ◌<◌, ◌++◌, ◌∷◌, [], map, length, slice_get, Some, IsTrue, is_some, option_map, option_copied, IfOk};
+ghost use Rattle.std.specs.Prelude.{◌≡◌, ◌++◌, ◌∷◌, [], map, length, slice_get, option_map, option_copied, IfOk, OnErr};
+ghost use Rattle.asm_node.specs.Env.{places_of};
 ghost use Rattle.asm_node.specs.Tree.{plain};
 ghost use Rattle.asm_node.specs.RuleTree.{plain_rule};
 ghost use Rattle.asm_node.specs.Machine.{definition_of};
-ghost use Rattle.asm_node.specs.Model.{defined_by, macro_by, machine_of};
+ghost use Rattle.asm_node.specs.Model.{defined_by, macro_by, machine_of, DiffersInPool};
+ghost use Rattle.asm_node.specs.Pool.{terms_of, rules_of, HasTerm, HasTerms, HasParts, TermsAreBefore, PartsAreBefore, HasGrown};
+ghost use Rattle.asm_node.specs.Term.{World, value_of, calls_of, unbound, val, close};
 
+use crate::close_term::close;
+use crate::env::Env;
 use crate::pool::Pool;
-use crate::rule::Rule;
-use crate::term::{Binder, Term};
+use crate::rule::{Rule, RuleKind};
+use crate::term::{Binder, Term, TermKind};
 use asm_list::{Listed, Name};
 use asm_sign::Signature;
+use std::alloc::AllocError;
 use std::rc::Rc;
 
 /// A function, the variables of its parameters, and the term that gives its values.
@@ -125,6 +131,43 @@ impl Model {
         ensures { option_map defined_by (option_copied result) ≡ definition_of (machine_of self.now).initial_terms function }
     {
         find(self.initial_terms.slice(), function)
+    }
+
+    /// A new node for a term in the model's pool.
+    pub fn term_node(&mut self, kind: TermKind) -> Result<Rc<Term>, AllocError>
+        requires children { HasTerms (terms_of self.old.pool) kind }
+        ensures node { IfOk result (λ t. t.value ≡ record { id = length (terms_of self.old.pool); kind = kind }) }
+        ensures terms { IfOk result (λ t. terms_of self.new.pool ≡ terms_of self.old.pool ++ t.value ∷ []) }
+        ensures rules { rules_of self.new.pool ≡ rules_of self.old.pool }
+        ensures before { IfOk result (λ t. TermsAreBefore t.value.id t.value.kind) }
+        ensures err { OnErr result (terms_of self.new.pool ≡ terms_of self.old.pool) }
+        ensures others { DiffersInPool self.old self.new }
+    {
+        self.pool.term(kind)
+    }
+
+    /// A new node for a rule in the model's pool.
+    pub fn rule_node(&mut self, kind: RuleKind) -> Result<Rc<Rule>, AllocError>
+        requires children { HasParts (terms_of self.old.pool) (rules_of self.old.pool) kind }
+        ensures node { IfOk result (λ r. r.value ≡ record { id = length (rules_of self.old.pool); kind = kind }) }
+        ensures rules { IfOk result (λ r. rules_of self.new.pool ≡ rules_of self.old.pool ++ r.value ∷ []) }
+        ensures terms { terms_of self.new.pool ≡ terms_of self.old.pool }
+        ensures before { IfOk result (λ r. PartsAreBefore r.value.id r.value.kind) }
+        ensures err { OnErr result (rules_of self.new.pool ≡ rules_of self.old.pool) }
+        ensures others { DiffersInPool self.old self.new }
+    {
+        self.pool.rule(kind)
+    }
+
+    /// The term with closed terms in the places of its variables, made in the model's pool.
+    pub fn closed(&mut self, term: &Rc<Term>, env: &Env) -> Result<Rc<Term>, AllocError>
+        ensures node { IfOk result (λ t. HasTerm (terms_of self.new.pool) t.value) }
+        ensures term { IfOk result (λ t. plain t.value ≡ close (places_of env.now) (plain term.now.value)) }
+        ensures value { IfOk result (λ t. (w : World) → value_of w (calls_of w) unbound (plain t.value) ≡ val w (places_of env.now) (plain term.now.value)) }
+        ensures pool { HasGrown self.old.pool self.new.pool }
+        ensures others { DiffersInPool self.old self.new }
+    {
+        close(&mut self.pool, term, env)
     }
 
     /// The macro rule of a number, where there is one.

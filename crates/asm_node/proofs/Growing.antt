@@ -13,7 +13,7 @@ use Rattle.asm_node.specs.declared.term.TermKind as node
 use Rattle.asm_node.specs.Pool.{terms_of, HasTerm, HasTerms, HasRow, HasGrown}
 use Rattle.asm_node.proofs.Trees.{row_of}
 
-front_stays : {A : Type 0} (xs ys : List A) (k : ℕ) (x : A) → slice_get xs k ≡ Some x → slice_get (xs ++ ys) k ≡ Some x
+pub front_stays : {A : Type 0} (xs ys : List A) (k : ℕ) (x : A) → slice_get xs k ≡ Some x → slice_get (xs ++ ys) k ≡ Some x
 front_stays [] ys k x is = absurd (cc (is))
 front_stays (y ∷ xs) ys zero x is = is
 front_stays (y ∷ xs) ys (suc k) x is = front_stays xs ys k x is

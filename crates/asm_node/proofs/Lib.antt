@@ -8,9 +8,11 @@ pub mod Continuing
 pub mod Exactly
 pub mod Extending
 pub mod Filling
+pub mod Formed
 pub mod Growing
 pub mod Inputs
 pub mod Listing
+pub mod ModelRows
 pub mod Pools
 pub mod Ranging
 pub mod Revising

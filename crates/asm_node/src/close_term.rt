@@ -8,8 +8,8 @@ ghost use Rattle.asm_node.specs.Term as meaning;
 ghost use Rattle.asm_node.specs.Term.{World, value_of, calls_of, unbound, val, put, keep, close_all};
 ghost use Rattle.asm_node.specs.Tree.{Var, plain, plain_kind, plain_all};
 
+use crate::definition::Terms;
 use crate::env::{Binding, Env};
-use crate::model::Terms;
 use crate::pool::Pool;
 use crate::term::{Binder, Term, TermKind};
 use asm_domain::Value;

@@ -1,6 +1,6 @@
 -- A worked model: a truth value x, and the main rule x := not x.
-use Rattle.std.proofs.Common.{◌≡◌, ℕ, zero, suc, ◌<◌, List, [], ◌∷◌, length, slice_get, slice_index_or, Some, None, All, refl, sym, ap, ◌∙◌, subst, arith}
-use Rattle.std.specs.Prelude.{⊤, false, true}
+use Rattle.std.proofs.Common.{◌≡◌, ℕ, zero, suc, ◌<◌, [], ◌∷◌, length, slice_get, Some, None, All, refl, sym, subst, arith}
+use Rattle.std.specs.Prelude.{false}
 use Rattle.asm_io.specs.declared.sources.Place.{Place}
 use Rattle.asm_domain.specs.Universe.{AreDistinct, Truths}
 use Rattle.asm_sign.specs.declared.function.DeclaredDomain.{DeclaredDomain}

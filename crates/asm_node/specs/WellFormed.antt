@@ -1,10 +1,10 @@
 -- Models as the model check leaves them.
-use Rattle.std.specs.Prelude.{◌≡◌, ◌≤◌, ℕ, Bool as Truth, true, false, not, List, length, map, Option, Some, None, slice_get, All, is_some, IsSome}
+use Rattle.std.specs.Prelude.{◌≡◌, ◌≤◌, ℕ, Bool as Truth, true, false, not, length, map, Some, None, slice_get, All, IsSome}
 use Rattle.asm_domain.specs.declared.value.Value.TheVariants.{Undef}
 use Rattle.asm_domain.specs.Universe.{AreDistinct}
 use Rattle.asm_sign.specs.declared.function.Function.{Function}
 use Rattle.asm_sign.specs.declared.function.FunKind.{FunKind}
-use Rattle.asm_sign.specs.declared.function.FunKind.TheVariants.{Static, Derived}
+use Rattle.asm_sign.specs.declared.function.FunKind.TheVariants.{Static}
 use Rattle.asm_sign.specs.Kind.{is_dynamic, is_kept}
 use Rattle.asm_sign.specs.Vocabulary.{IsDeclared}
 use Rattle.asm_node.specs.Tree.{Tree}

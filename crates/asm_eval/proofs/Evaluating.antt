@@ -1,51 +1,24 @@
 -- How the value of a term follows from those of its parts.
 use Rattle.std.proofs.Common.{append_assoc, add-one, drop-cons, ◌≡◌, ℕ, zero, suc, ◌+◌, ◌-◌, ◌*◌, ◌≤◌, ◌<◌, true, false, if◌then◌else◌, List, [], ◌∷◌, ◌++◌, refl, sym, ap, ◌∙◌, subst, arith, length, drop, slice_get, nat_eq, Some, Option, get_or}
-use mathlib.Core.Former.{Count}
 use Rattle.std.specs.declared.rc.Rc.{Rc}
 use Rattle.std.specs.declared.alloc.Global.{Global}
 use Rattle.asm_domain.specs.declared.value.Value.{Value}
 use Rattle.asm_sign.specs.declared.function.Function.{Function}
-use Rattle.asm_node.specs.declared.operator.Op.{Op}
 use Rattle.asm_node.specs.declared.term.Term.{Term}
-use Rattle.asm_node.specs.declared.term.TermKind.{TermKind, Row_of-TermKind-Get-1-1, end_of-TermKind-Get-1-1, more_of-TermKind-Get-1-1, items-the_row-TermKind-Get-1-1, items_hidden-the_row-TermKind-Get-1-1-0}
-use Rattle.asm_node.specs.declared.term.TermKind as node
-use Rattle.asm_node.specs.Tree.{Get, Oper, more, plain, plain_kind, plain_row, plain_all}
+use Rattle.asm_node.specs.Tree.{plain, plain_all}
 use Rattle.asm_node.specs.Values.{within}
 use Rattle.asm_node.specs.Machine.{Definition, definition_of}
 use Rattle.asm_node.specs.Term.{World, Reads, Calls, Outcome, Gives, Needs, and_then, value_of, values_of, guard_values, calls_within, value_of_function, defined_value, parameters_have}
 use Rattle.asm_node.specs.Exact.{Each, nothing, OfCalls, exact_within, IsExactBody, IsExactIn, AreExactIn}
-use Rattle.asm_node.specs.Weight.{nodes, nodes_all}
 use Rattle.asm_eval.specs.declared.error.EvalError.{EvalError}
 use Rattle.asm_eval.specs.declared.error.EvalError.TheVariants.{Need, Memory}
 use Rattle.asm_eval.specs.Answer.{Ends}
 use Rattle.asm_eval.specs.Work.{room, rooms}
 
--- a row of nodes has the trees of its list
-plain_row-items : {n : Count} (row : Row_of-TermKind-Get-1-1 n) → plain_row row ≡ plain_all (items-the_row-TermKind-Get-1-1 n row)
-plain_row-items end_of-TermKind-Get-1-1 = refl
-plain_row-items (more_of-TermKind-Get-1-1 _ _ t row) = ap (more (plain_kind t)) (plain_row-items row)
-
-abbrev row_of : TermKind → (n : Count) × Row_of-TermKind-Get-1-1 n
-row_of (node.Get' _ _ row) = (_, row)
-row_of (node.Oper' _ _ row) = (_, row)
-row_of _ = (_, end_of-TermKind-Get-1-1)
-
-pub plain_kind-Get : (f : ℕ) (xs : List (Rc Term Global)) → plain_kind (node.Get f xs) ≡ Get f (plain_all xs)
-plain_kind-Get f xs = ap (Get f) (plain_row-items (row_of (node.Get f xs)).1 ∙ ap plain_all (items_hidden-the_row-TermKind-Get-1-1-0 xs))
-
-pub plain_kind-Oper : (o : Op) (xs : List (Rc Term Global)) → plain_kind (node.Oper o xs) ≡ Oper o (plain_all xs)
-plain_kind-Oper o xs = ap (Oper o) (plain_row-items (row_of (node.Oper o xs)).1 ∙ ap plain_all (items_hidden-the_row-TermKind-Get-1-1-0 xs))
-
 -- an error ends the evaluation
 pub passes : {B D : Type 0} (e : EvalError) (o : Outcome B) (f : B → Outcome D) → Ends e o → Ends e (and_then o f)
 passes (Need l) o f is = ap (λ x. and_then x f) is
 passes Memory o f is = tt
-
--- a term of a list has no more nodes than the list
-pub nodes-item : (ts : List (Rc Term Global)) (k : ℕ) (t : Rc Term Global) → k < length ts → t ≡ get_or ts k t → nodes (plain t.value) ≤ nodes_all (plain_all ts)
-nodes-item [] k t h is = absurd (omega arith)
-nodes-item (x ∷ ts) zero t h is = rw is (omega arith)
-nodes-item (x ∷ ts) (suc k) t h is = omega (arith, nodes-item ts k t (omega arith) is)
 
 -- a definition's room is within that of all
 pub room-found : (ds : List Definition) (f : ℕ) (d : Definition) → Some d ≡ definition_of ds f → room d ≤ rooms ds

@@ -9,7 +9,7 @@ use Rattle.asm_node.specs.Term.{World, Gives, unbound, with_value, with_tuple, p
 use Rattle.asm_node.specs.Exact.{but, but_all, nothing, exact_within, IsExactIn, AreExactIn}
 use Rattle.asm_node.proofs.Closed.{IsClosed}
 use Rattle.asm_eval.specs.World.{reads_by, value_by, each_by, IsExactBy, AreExactBy, parameters_at}
-use Rattle.asm_eval.proofs.Closing.{value_of-close, exact-close, exact_all-close, closed-value, closed-exact, weaker}
+use Rattle.asm_node.proofs.Closing.{value_of-close, exact-close, exact_all-close, closed-value, closed-exact, weaker}
 
 module _ (w : World) (n : ℕ) where
   pub reads-put : (x : ℕ) (v : Value) (e : Places) → reads_by w n (put x (Const v) e) ≡ with_value x v (reads_by w n e)

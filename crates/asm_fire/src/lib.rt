@@ -4,8 +4,10 @@
 mod candidates;
 mod error;
 mod join;
+mod sound_law;
 mod taking;
 mod update;
 
 pub use error::FireError;
+pub use sound_law::rules_are_sound;
 pub use taking::fire;

@@ -47,7 +47,7 @@ module _ (w : World) (filled : IsFilled w) where
   same_reads inner outer reads e h y = subst (λ (s : Range). Answers (IsIn s) (reads y)) (sym (e y)) (h y)
 
   -- a tuple's values are elements of the binders' domains
-  abbrev AreElements : List Binder → List Value → Type 0
+  abbrev pub AreElements : List Binder → List Value → Type 0
   AreElements [] vs = ⊤
   AreElements (b ∷ bs) [] = ⊤
   AreElements (b ∷ bs) (v ∷ vs) = (is_element signature.domains b.domain v ≡ true) × AreElements bs vs
@@ -85,15 +85,15 @@ module _ (w : World) (filled : IsFilled w) where
   among d v e c = rw e (any_of v (elements_at signature.domains d) c)
 
   -- the domains of binders are finite
-  abbrev AreFinite : List Binder → Type 0
+  abbrev pub AreFinite : List Binder → Type 0
   AreFinite [] = ⊤
   AreFinite (b ∷ bs) = (nat_eq b.domain whole ≡ false) × AreFinite bs
 
-  bound_finite : (bs : List Binder) (rs inner : Ranges) → AreBound signature bs rs inner → AreFinite bs
+  pub bound_finite : (bs : List Binder) (rs inner : Ranges) → AreBound signature bs rs inner → AreFinite bs
   bound_finite [] rs inner h = tt
   bound_finite (b ∷ bs) rs inner h = (h.5, bound_finite bs rs h.1 h.3)
 
-  picked_elements : (bs : List Binder) (vs : List Value) → AreFinite bs → AllZip (λ x xs. Contains xs x) vs (map (λ (b : Binder). elements_at signature.domains b.domain) bs) → AreElements bs vs × (length vs ≡ length bs)
+  pub picked_elements : (bs : List Binder) (vs : List Value) → AreFinite bs → AllZip (λ x xs. Contains xs x) vs (map (λ (b : Binder). elements_at signature.domains b.domain) bs) → AreElements bs vs × (length vs ≡ length bs)
   picked_elements [] [] f h = (tt, refl)
   picked_elements [] (v ∷ vs) f h = absurd h
   picked_elements (b ∷ bs) [] f h = absurd h

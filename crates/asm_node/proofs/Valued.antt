@@ -37,7 +37,7 @@ pub then_answers : {A B : Type 0} (P : A → Type 0) (Q : B → Type 0) (o : Out
 then_answers P Q (Gives a) f h k = k a h
 then_answers P Q (Needs l) f h k = tt
 
-any_answers : {A B : Type 0} (Q : B → Type 0) (o : Outcome A) (f : A → Outcome B) → ((a : A) → Answers Q (f a)) → Answers Q (and_then o f)
+pub any_answers : {A B : Type 0} (Q : B → Type 0) (o : Outcome A) (f : A → Outcome B) → ((a : A) → Answers Q (f a)) → Answers Q (and_then o f)
 any_answers Q (Gives a) f k = k a
 any_answers Q (Needs l) f k = tt
 

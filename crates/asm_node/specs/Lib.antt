@@ -1,3 +1,4 @@
+pub mod Choices
 pub mod Choosing
 pub mod Env
 pub mod Exact
@@ -5,14 +6,20 @@ pub mod Extending
 pub mod Filled
 pub mod Machine
 pub mod Model
+pub mod Parts
 pub mod Pool
 pub mod Ranges
+pub mod Reads
+pub mod RuleRanges
 pub mod RuleTree
+pub mod Stays
 pub mod Step
 pub mod Taking
 pub mod Term
 pub mod Tree
+pub mod Types
 pub mod UpdateSet
 pub mod Values
 pub mod Weight
+pub mod WellFormed
 pub mod Words

@@ -1,5 +1,5 @@
 -- The nodes of a pool, by their numbers.
-use Rattle.std.specs.Prelude.{◌≡◌, ℕ, ◌<◌, ⊤, List, map, Some, slice_get, All}
+use Rattle.std.specs.Prelude.{◌≡◌, ℕ, ◌<◌, ⊤, List, ◌++◌, map, Some, slice_get, All}
 use Rattle.std.specs.declared.rc.Rc.{Rc}
 use Rattle.std.specs.declared.alloc.Global.{Global}
 use Rattle.asm_node.specs.declared.pool.Pool.{Pool}
@@ -9,6 +9,7 @@ use Rattle.asm_node.specs.declared.term.TermKind as kind
 use Rattle.asm_node.specs.declared.rule.Rule as of_rule
 use Rattle.asm_node.specs.declared.rule.RuleKind.{RuleKind, Row_of-RuleKind-Par-1-1, end_of-RuleKind-Par-1-1, more_of-RuleKind-Par-1-1}
 use Rattle.asm_node.specs.declared.rule.RuleKind as form
+use Rattle.asm_node.specs.Tree.{Tree, plain}
 
 -- the terms that were made, each at its number
 abbrev pub terms_of : Pool → List Term
@@ -89,3 +90,14 @@ PartsAreBefore bound (form.Let' at x t _ i p) = i < bound
 PartsAreBefore bound (form.Forall' at bs g _ i p) = i < bound
 PartsAreBefore bound (form.Choose' at bs g _ i p _ j q) = (i < bound) × (j < bound)
 PartsAreBefore bound (form.Call at f ts) = ⊤
+
+-- the node is one of the pool, and has the tree
+pub record IsNode (pool : Pool) (t : Term) (tree : Tree) : Type 0 where
+  pub is_of_pool : HasTerm (terms_of pool) t
+  pub is_tree : plain t ≡ tree
+
+-- a pool has further terms after those that it had, and the same rules
+pub record HasGrown (old new : Pool) : Type 0 where
+  pub further : List Term
+  pub terms : terms_of new ≡ terms_of old ++ further
+  pub rules : rules_of new ≡ rules_of old

@@ -4,6 +4,7 @@ ghost use Rattle.asm_sign.specs.Vocabulary.{locations, function_at};
 ghost use Rattle.asm_node.specs.Machine.{no_input, has_kind, is_shared};
 
 use asm_domain::Value;
+use asm_list::Listed;
 use asm_sign::{FunKind, Signature};
 use std::alloc::{AllocError, Global};
 use std::collections::BTreeMap;
@@ -14,6 +15,9 @@ use std::marker::Model;
 pub struct Input {
     values: BTreeMap<u32, Value>,
 }
+
+/// The inputs of steps, in their order.
+pub type Inputs = Listed<Input>;
 
 impl Model for Input {
     ghost use Rattle.std.specs.FinMap as finite;

@@ -1,7 +1,10 @@
 //! Terms and rules as nodes, and what they mean.
 #![tactic(auto)]
 
+mod choices;
 mod choosing_law;
+mod close_term;
+mod definition;
 mod env;
 mod extending_law;
 mod input;
@@ -17,15 +20,18 @@ mod term;
 mod tests;
 mod words;
 
+pub use choices::Choices;
 pub use choosing_law::words_are_choices;
+pub use close_term::close;
+pub use definition::{Definition, Definitions, InitialTerms, MacroRule, Rules, Terms};
 pub use env::{Binding, Env};
 pub use extending_law::steps_extend;
-pub use input::Input;
-pub use model::{Definition, Definitions, InitialTerms, MacroRule, Model, Rules, Terms};
+pub use input::{Input, Inputs};
+pub use model::Model;
 pub use operator::{Op, Quantifier};
 pub use path::{Path, Step, Values};
 pub use pool::Pool;
-pub use range::{ranges_hold, worlds_are_filled};
+pub use range::{definitions_are_ranged, ranges_hold, worlds_are_filled};
 pub use rule::{Rule, RuleKind};
 pub use stop::Stop;
 pub use term::{Binder, Term, TermKind};

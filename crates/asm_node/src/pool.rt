@@ -30,6 +30,10 @@ impl Pool {
         }
     }
 
+    pub(crate) fn alloc(&self) -> Global {
+        self.alloc
+    }
+
     /// A new node for a term.
     pub fn term(&mut self, kind: TermKind) -> Result<Rc<Term>, AllocError>
         requires children { HasTerms (terms_of self.old) kind }

@@ -7,6 +7,7 @@ ghost use Rattle.asm_node.specs.Exact.{IsExact};
 ghost use Rattle.asm_node.specs.Filled.{IsFilled};
 ghost use Rattle.asm_node.specs.Machine.{Machine, State, Input};
 ghost use Rattle.asm_node.specs.Step.{IsState, IsInput, world_at};
+ghost use Rattle.asm_node.specs.WellFormed.{IsWellFormed};
 ghost use Rattle.asm_node.specs.Ranges.{Range, IsIn, no_ranges, HasRange, IsRanged, AreDefinitionsRanged};
 
 /// In a world whose locations have values of their codomains, over a machine in whose definitions no interval is refused,
@@ -22,4 +23,10 @@ pub fn ranges_hold()
 #[tactic(auto, using(crate::proofs::Filling::filled_at))]
 pub fn worlds_are_filled()
     ensures { (m : Machine) (s : State) (i : Input) → IsState m s → IsInput m i → IsFilled (world_at m s i) }
+{}
+
+/// In no definition of a well-formed model an interval is refused.
+#[tactic(auto, using(crate::proofs::Formed::definitions_ranged))]
+pub fn definitions_are_ranged()
+    ensures { (m : Machine) → IsWellFormed m → AreDefinitionsRanged m }
 {}

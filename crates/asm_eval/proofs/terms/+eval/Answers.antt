@@ -15,8 +15,9 @@ use Rattle.asm_node.proofs.Closed.{places-closed}
 use Rattle.asm_eval.specs.Answer.{Ends, Answers}
 use Rattle.asm_eval.specs.Work.{rooms}
 use Rattle.asm_eval.specs.World.{world_in, reads_by, each_by, value_by, values_by, IsExactBy, AreExactBy, parameters_at}
-use Rattle.asm_eval.proofs.Closing.{tuples-length, length-at}
-use Rattle.asm_eval.proofs.Evaluating.{passes, plain_kind-Get, plain_kind-Oper, nodes-item, room-found, entered, entered-exact, less_work, exact-item, values_of-drop, values_of-step, guards-drop, guards-step, guards-first}
+use Rattle.asm_node.proofs.Closing.{tuples-length, length-at}
+use Rattle.asm_node.proofs.Trees.{plain_kind-Get, plain_kind-Oper, nodes-item}
+use Rattle.asm_eval.proofs.Evaluating.{passes, room-found, entered, entered-exact, less_work, exact-item, values_of-drop, values_of-step, guards-drop, guards-step, guards-first}
 use Rattle.asm_eval.proofs.Worth.{reads-put, reads-tuple, reads-parameters, exact-put, exact-tuple, exact-parameters, closed-by, exact-by}
 use Rattle.asm_eval.proofs.terms.+eval.Goals as goal
 

@@ -1,7 +1,7 @@
 use Rattle.std.proofs.Common.{◌≡◌, map, drop}
 use Rattle.asm_node.specs.Machine.{definition_of}
-use Rattle.asm_node.specs.Model.{defined_by}
-use Rattle.asm_node.proofs.model.find.Given as goal
+use Rattle.asm_node.specs.Parts.{defined_by}
+use Rattle.asm_node.proofs.definition.find.Given as goal
 
 -- the definition is one of those that are left
 abbrev pub invariant-loop-definition : goal.invariant-loop-definition

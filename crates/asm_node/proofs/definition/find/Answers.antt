@@ -1,8 +1,8 @@
 use Rattle.std.proofs.Common.{◌≡◌, ℕ, ◌<◌, List, map, length, drop, get_or, Some, drop-cons, eq-eqb, refl, sym, ◌∙◌}
-use Rattle.asm_node.specs.declared.model.Definition.{Definition}
+use Rattle.asm_node.specs.declared.definition.Definition.{Definition}
 use Rattle.asm_node.specs.Machine.{definition_of}
-use Rattle.asm_node.specs.Model.{defined_by}
-use Rattle.asm_node.proofs.model.find.Goals as goal
+use Rattle.asm_node.specs.Parts.{defined_by}
+use Rattle.asm_node.proofs.definition.find.Goals as goal
 
 found : (ds : List Definition) (i : ℕ) (d : Definition) (f : ℕ) → i < length ds → d ≡ get_or ds i d → d.function ≡ f → definition_of (map defined_by (drop i ds)) f ≡ Some (defined_by d)
 found ds i d f lt is same = rw (drop-cons ds i d, sym is, eq-eqb d.function f same) refl

@@ -50,14 +50,14 @@ module _ (w : World) (calls : Calls) where
   abbrev pub Fits : Places → Reads → Reads → Type 0
   Fits e inner outer = (y : ℕ) → ((e y ≡ Var y) × (inner y ≡ outer y)) ⊎ ((r : Reads) → value_of w calls r (e y) ≡ outer y)
 
-  fits-bound : (e : Places) (inner outer : Reads) (x : ℕ) (v : Value) → Fits e inner outer → Fits (put x (Var x) e) (with_value x v inner) (with_value x v outer)
+  pub fits-bound : (e : Places) (inner outer : Reads) (x : ℕ) (v : Value) → Fits e inner outer → Fits (put x (Var x) e) (with_value x v inner) (with_value x v outer)
   fits-bound e inner outer x v fits y =
       elim (nat_eq x y) as (λ b. nat_eq x y ≡ b → ((◌≡◌ {A = Tree} (if b then Var x else e y) (Var y)) × (◌≡◌ {A = Outcome Value} (if b then Gives v else inner y) (if b then Gives v else outer y))) ⊎ ((r : Reads) → value_of w calls r (if b then Var x else e y) ≡ (if b then Gives v else outer y))) [
         | true ↦ λ is. inl (ap Var (eqb→eq x y (subst T (sym is) tt)), refl)
         | false ↦ λ is. fits y
       ] refl
 
-  fits-tuple : (e : Places) (inner outer : Reads) (bs : List Binder) (vs : List Value) → length vs ≡ length bs → Fits e inner outer → Fits (keep bs e) (with_tuple bs vs inner) (with_tuple bs vs outer)
+  pub fits-tuple : (e : Places) (inner outer : Reads) (bs : List Binder) (vs : List Value) → length vs ≡ length bs → Fits e inner outer → Fits (keep bs e) (with_tuple bs vs inner) (with_tuple bs vs outer)
   fits-tuple e inner outer [] [] long fits = fits
   fits-tuple e inner outer [] (v ∷ vs) long fits = absurd (omega (arith, long))
   fits-tuple e inner outer (b ∷ bs) [] long fits = absurd (omega (arith, long))

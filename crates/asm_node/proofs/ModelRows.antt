@@ -1,0 +1,80 @@
+-- A worked model: a truth value x, and the main rule x := not x.
+use Rattle.std.proofs.Common.{◌≡◌, ℕ, zero, suc, ◌<◌, [], ◌∷◌, length, slice_get, Some, None, All, refl, sym, subst, arith}
+use Rattle.std.specs.Prelude.{false}
+use Rattle.asm_io.specs.declared.sources.Place.{Place}
+use Rattle.asm_domain.specs.Universe.{AreDistinct, Truths}
+use Rattle.asm_sign.specs.declared.function.DeclaredDomain.{DeclaredDomain}
+use Rattle.asm_sign.specs.declared.function.FunKind.TheVariants.{Controlled}
+use Rattle.asm_sign.specs.declared.function.Function.{Function}
+use Rattle.asm_sign.specs.Kind.{is_dynamic}
+use Rattle.asm_sign.specs.Vocabulary.{IsDeclared}
+use Rattle.asm_node.specs.declared.operator.Op.TheVariants.{Not}
+use Rattle.asm_node.specs.Tree.{Get, Oper, none, more}
+use Rattle.asm_node.specs.RuleTree.{Update}
+use Rattle.asm_node.specs.Machine.{Machine}
+use Rattle.asm_node.specs.Ranges.{NoNumber}
+use Rattle.asm_node.specs.Types.{Boolean}
+use Rattle.asm_node.specs.Reads.{may_be_read}
+use Rattle.asm_node.specs.WellFormed.{IsWellFormed, IsRule, IsDefined, any_kind}
+
+abbrev place : Place
+place = record { file = 0; at = 0 }
+
+abbrev truths : DeclaredDomain
+truths = record { name = None; domain = Truths }
+
+abbrev x : Function
+x = record { name = 120 ∷ []; kind = Controlled; domains = []; codomain = 0 }
+
+abbrev model : Machine
+model = record {
+  signature = record { domains = truths ∷ []; functions = x ∷ [] };
+  definitions = [];
+  initial_terms = [];
+  rules = [];
+  invariants = [];
+  main = Update place 0 none (Oper Not (more (Get 0 none) none));
+}
+
+all_of_none : {A : Type 0} (P : A → Type 0) → All P []
+all_of_none P k d lt = absurd (omega (arith, lt))
+
+all_of_one : {A : Type 0} (P : A → Type 0) (x : A) → P x → All P (x ∷ [])
+all_of_one P x p zero d lt = p
+all_of_one P x p (suc k) d lt = absurd (omega (arith, lt))
+
+none_distinct : {A : Type 0} → AreDistinct {A = A} []
+none_distinct = record { one_place = λ i j x at. absurd (cc (at)) }
+
+declared : IsDeclared (truths ∷ []) x
+declared = record { few = omega arith; declared = all_of_none (λ n. n < length (truths ∷ [])); codomain = λ _. omega arith }
+
+defined : (f : ℕ) (function : Function) → slice_get (x ∷ []) f ≡ Some function → IsDefined model f function
+defined zero function at static = absurd (let e : x ≡ function = cc (at) in let s : is_dynamic x.kind ≡ false = subst (λ (g : Function). is_dynamic g.kind ≡ false) (sym e) static in cc (s))
+defined (suc f) function at static = absurd (cc (at))
+
+ends : (f : ℕ) (function : Function) → slice_get (x ∷ []) f ≡ Some function → may_be_read model any_kind 32 f
+ends zero function at = (refl, tt)
+ends (suc f) function at = absurd (cc (at))
+
+main : IsRule model model.main
+main = record {
+  typed = (x, refl, refl, tt, (Boolean, refl, (Boolean ∷ [], ((x, refl, tt, refl), tt), (refl, refl))));
+  ranged = (([], tt), (NoNumber, (NoNumber ∷ [], ((([], tt), λ z is. absurd (cc (is))), tt), λ z is. is, tt)));
+}
+
+pub is_well_formed : IsWellFormed model
+is_well_formed = record {
+  few_domains = omega arith;
+  functions = all_of_one (IsDeclared (truths ∷ [])) x declared;
+  definitions = λ k d lt. absurd (omega (arith, lt));
+  defined_once = none_distinct;
+  defined = defined;
+  definitions_end = ends;
+  rules_end = λ f. tt;
+  initial_terms = λ k d lt. absurd (omega (arith, lt));
+  initial_once = none_distinct;
+  rules = λ k d lt. absurd (omega (arith, lt));
+  invariants = λ k d lt. absurd (omega (arith, lt));
+  main = main;
+}

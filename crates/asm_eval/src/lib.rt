@@ -9,6 +9,8 @@ mod location;
 mod number;
 mod quantify;
 mod terms;
+#[cfg(test)]
+mod tests;
 mod truth;
 mod tuple;
 mod world;

@@ -1,3 +1,4 @@
 pub mod Answer
+pub mod Beginning
 pub mod Work
 pub mod World

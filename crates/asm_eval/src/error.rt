@@ -1,6 +1,8 @@
 ghost use Rattle.std.specs.Prelude.{◌≡◌};
 ghost use Rattle.asm_eval.specs.declared.error.EvalError.TheVariants.{Memory};
+ghost use Rattle.asm_eval.specs.declared.error.InitError.TheVariants.{Memory as NoMemory};
 
+use asm_domain::Value;
 use std::alloc::AllocError;
 
 /// Why an evaluation gives no value.
@@ -16,5 +18,21 @@ impl From<AllocError> for EvalError {
 
     fn from(_error: AllocError) -> EvalError {
         EvalError::Memory
+    }
+}
+
+/// Why a run has no initial state.
+#[derive(Clone, Copy, Debug, PartialEq, Eq)]
+pub enum InitError {
+    /// The first location, by its slot, whose initial value is neither `undef` nor in its codomain, and that value.
+    BadInitial(u32, Value),
+    Memory,
+}
+
+impl From<AllocError> for InitError {
+    ghost from_gives = { λ _ e. e ≡ NoMemory };
+
+    fn from(_error: AllocError) -> InitError {
+        InitError::Memory
     }
 }

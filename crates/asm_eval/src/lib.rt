@@ -1,7 +1,8 @@
-//! The values of terms.
+//! The values of terms, and the states in which runs begin.
 #![tactic(auto)]
 
 mod apply;
+mod begin;
 mod bind;
 mod element;
 mod error;
@@ -9,13 +10,16 @@ mod location;
 mod number;
 mod quantify;
 mod terms;
+#[cfg(test)]
+mod tests;
 mod truth;
 mod tuple;
 mod world;
 
+pub use begin::initial;
 pub use bind::bound;
 pub use element::{is_element, within};
-pub use error::EvalError;
+pub use error::{EvalError, InitError};
 pub use terms::{eval, eval_all, eval_in};
 pub use truth::is_undef;
 pub use tuple::{Tuples, tuples_of};

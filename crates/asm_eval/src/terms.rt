@@ -2,11 +2,11 @@
 ghost use Rattle.std.specs.Prelude.{◌≡◌, ◌++◌, ◌∷◌, [], Some, List, OnOk, Contains, slice_get};
 ghost use Rattle.asm_domain.specs.declared.value.Value as domain;
 ghost use Rattle.asm_node.specs.Env.{places_of};
-ghost use Rattle.asm_node.specs.Exact.{IsExact, AreExact, IsOfCall, exact_within};
+ghost use Rattle.asm_node.specs.Exact.{IsExact, IsExactBody, AreExact, IsOfCall, exact_within};
 ghost use Rattle.asm_node.specs.Machine.{tuples_of};
-ghost use Rattle.asm_node.specs.Model.{machine_of};
+ghost use Rattle.asm_node.specs.Model.{defined_by, machine_of};
 ghost use Rattle.asm_node.specs.Step.{IsState};
-ghost use Rattle.asm_node.specs.Term.{close, close_all, put, put_tuple, read, guard_values, calls_within, val, vals};
+ghost use Rattle.asm_node.specs.Term.{close, close_all, put, put_tuple, read, guard_values, calls_of, calls_within, parameters_have, val, value_of, vals};
 ghost use Rattle.asm_node.specs.Tree.{Const, plain, plain_all};
 ghost use Rattle.asm_eval.specs.Answer.{Answers};
 ghost use Rattle.asm_eval.specs.World.{world_in, reads_by, each_by, value_by, values_by, IsExactBy, AreExactBy};
@@ -20,7 +20,7 @@ use crate::quantify::quantified;
 use crate::tuple::tuples_of;
 use crate::world::World;
 use asm_domain::Value;
-use asm_node::{Binder, Binding, Env, Input, Model, Term, TermKind, Values};
+use asm_node::{Binder, Binding, Definition, Env, Input, Model, Term, TermKind, Values};
 use asm_sign::Function;
 use asm_state::Store;
 use std::alloc::{AllocError, Global};
@@ -73,6 +73,19 @@ pub fn eval_all<S: Store>(
     ensures { Answers (λ vs. vs) result (vals (world_in (machine_of world.now.model.now) (S.state world.now.store.now) world.now.input.now) (places_of env.now) (plain_all terms.now)) }
 {
     eval_terms(world, DEFINITIONS, env, terms)
+}
+
+/// The value of a definition's term at arguments in a world.
+pub fn eval_body<S: Store>(
+    world: &World<'_, S>,
+    definition: &Definition,
+    values: &[Value],
+) -> Result<Value, EvalError>
+    requires { let w = world_in (machine_of world.now.model.now) (S.state world.now.store.now) world.now.input.now in IsExactBody w (calls_of w) (exact_within w 32) (Some (defined_by definition.now)) values.now }
+    ensures { let w = world_in (machine_of world.now.model.now) (S.state world.now.store.now) world.now.input.now in Answers (λ v. v) result (value_of w (calls_of w) (parameters_have definition.now.variables values.now) (plain definition.now.term.value)) }
+{
+    let env = parameters(world.alloc, definition.variables.slice(), values)?;
+    eval_term(world, DEFINITIONS, &env, &definition.term)
 }
 
 #[cycle(eval)]

@@ -486,6 +486,17 @@ fn each_limit_is_kept(rt: HostRuntime) -> Result<(), Fail> {
         let (exit, _) = run(alloc, &held, &["run", "t.asm", "--steps", "1"])?;
         assert_eq!(rt; exit, Exit::Code(code), "nested {count} times");
     }
+    for (count, code) in [(4096, 0), (4097, 3)] {
+        let held = model(alloc, &functions(alloc, count)?, "skip", "")?;
+        let (exit, _) = run(alloc, &held, &["run", "t.asm", "--steps", "1"])?;
+        assert_eq!(rt; exit, Exit::Code(code), "{count} functions");
+    }
+    Ok(())
+}
+
+#[test]
+fn parentheses_nest_64_deep(rt: HostRuntime) -> Result<(), Fail> {
+    let alloc = rt.alloc();
     for (count, printed) in [
         (64, "t.asm:8:1: syntax error\n"),
         (65, "t.asm:7:70: nested too deep\n"),
@@ -497,11 +508,6 @@ fn each_limit_is_kept(rt: HostRuntime) -> Result<(), Fail> {
             assert_eq!(rt; exit, Exit::Code(3), "{count} parentheses");
             assert_eq!(rt; sink.bytes(), printed.as_bytes(), "{count} parentheses");
         }
-    }
-    for (count, code) in [(4096, 0), (4097, 3)] {
-        let held = model(alloc, &functions(alloc, count)?, "skip", "")?;
-        let (exit, _) = run(alloc, &held, &["run", "t.asm", "--steps", "1"])?;
-        assert_eq!(rt; exit, Exit::Code(code), "{count} functions");
     }
     Ok(())
 }

@@ -1,13 +1,11 @@
 //! A whole unit.
 
 ghost use Rattle.std.specs.Prelude.{◌≡◌, ◌==◌, false};
-ghost use Rattle.asm_grammar.specs.Grammar.{Gives};
 ghost use Rattle.asm_grammar.specs.Whole.{GivesWhole, whole_at};
 ghost use Rattle.asm_tree.specs.Language.{models};
 ghost use Rattle.asm_tree.specs.Rules.{body};
 ghost use Rattle.asm_tree.specs.Units as language;
 ghost use Rattle.asm_tree.specs.Spelling.{limit};
-ghost use Rattle.asm_body.specs.Reading.{read_in};
 ghost use Rattle.asm_body.specs.Seen.{all_seen};
 
 use asm_body::Lexeme;

@@ -21,8 +21,8 @@ use asm_state::{MapStore, Store};
 use std::alloc::{AllocError, Global};
 
 /// The state in which a run begins: each kept location has the value of its initial term, or `undef` without one.
+#[tactic(auto, using(crate::proofs::Initials::initials_of_model))]
 pub fn initial(alloc: Global, model: &Model) -> Result<MapStore, InitError>
-    requires { AreInitialsExact (machine_of model.now) }
     ensures begins { Begins (λ s. s) result (initial (machine_of model.now)) }
     ensures state { IfOk result (IsState (machine_of model.now)) }
 {

@@ -3,3 +3,4 @@ pub mod Joining
 pub mod Keeping
 pub mod Single
 pub mod Sounding
+pub mod Tried

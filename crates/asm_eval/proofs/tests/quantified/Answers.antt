@@ -16,5 +16,5 @@ eval-requires-clause-state c =
 pub eval-requires-clause-exact : goal.eval-requires-clause-exact
 eval-requires-clause-exact c =
     let w = world_in (machine_of c.in_ok-model.model) c.in_ok-store.store c.new-input.result in
-    let is : plain c.in_ok-term.term.value ≡ Quant c.args.quantifier c.in_ok-truths.field-0 (Const c.args.guard) = ap plain_kind c.in_ok-term.ensures ∙ ap (Quant c.args.quantifier c.in_ok-truths.field-0) (ap plain_kind c.in_ok-guard.ensures) in
+    let is : plain c.in_ok-term.term.value ≡ Quant c.args.quantifier c.in_ok-binders.field-0 (Const c.args.guard) = ap plain_kind c.in_ok-term.ensures ∙ ap (Quant c.args.quantifier c.in_ok-binders.field-0) (ap plain_kind c.in_ok-guard.ensures) in
     subst (λ e. IsExact w (close e (plain c.in_ok-term.term.value))) (sym c.new-2.ensures.places) (subst (λ t. IsExact w (close nowhere t)) (sym is) (λ vs at. tt))

@@ -24,7 +24,8 @@ use Rattle.asm_node.specs.Parts.{defined_by, macro_by, machine_from}
 use Rattle.asm_node.specs.Ranges.{no_ranges, Range, From, IsRangeOf, IsNarrowRange, constant_numbers}
 use Rattle.asm_node.specs.RuleTree.{Rule, Skip, plain_rule}
 use Rattle.asm_node.specs.Tree.{Const, plain}
-use Rattle.asm_node.specs.Types.{Integer, IsConstant}
+use Rattle.asm_node.specs.declared.term_type.TermType.TheVariants.{Integer}
+use Rattle.asm_node.specs.Types.{IsConstant}
 use Rattle.asm_node.specs.Values.{whole}
 use Rattle.asm_node.specs.WellFormed.{IsDefinition, IsRule, IsWellFormed, any_kind, is_defined}
 

@@ -5,7 +5,8 @@ ghost use Rattle.asm_node.specs.declared.term.TermKind as kind;
 ghost use Rattle.asm_node.specs.Exact.{IsSmall};
 ghost use Rattle.asm_node.specs.Model.{machine_of};
 ghost use Rattle.asm_node.specs.Pool.{rules_of, terms_of};
-ghost use Rattle.asm_node.specs.Types.{Integer, IsConstant};
+ghost use Rattle.asm_node.specs.declared.term_type.TermType.TheVariants.{Integer};
+ghost use Rattle.asm_node.specs.Types.{IsConstant};
 
 use crate::{EvalError, InitError, eval, initial};
 use asm_domain::{Domain, Value};

@@ -8,6 +8,7 @@ pub mod Continuing
 pub mod Exactly
 pub mod Extending
 pub mod Filling
+mod Firsts
 pub mod Formed
 pub mod Growing
 pub mod Inputs

@@ -13,7 +13,7 @@ use Rattle.asm_node.specs.Tree.{Get, Oper, none, more}
 use Rattle.asm_node.specs.RuleTree.{Update}
 use Rattle.asm_node.specs.Machine.{Machine}
 use Rattle.asm_node.specs.Ranges.{NoNumber}
-use Rattle.asm_node.specs.Types.{Boolean}
+use Rattle.asm_node.specs.declared.term_type.TermType.TheVariants.{Boolean}
 use Rattle.asm_node.specs.Reads.{may_be_read}
 use Rattle.asm_node.specs.WellFormed.{IsWellFormed, IsRule, IsDefined, any_kind}
 

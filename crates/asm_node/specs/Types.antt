@@ -11,16 +11,12 @@ use Rattle.asm_sign.specs.Vocabulary.{Vocabulary}
 use Rattle.asm_node.specs.declared.operator.Op.{Op}
 use Rattle.asm_node.specs.declared.operator.Op.TheVariants as op
 use Rattle.asm_node.specs.declared.term.Binder.{Binder}
+use Rattle.asm_node.specs.declared.term_type.TermType.{TermType}
+use Rattle.asm_node.specs.declared.term_type.TermType.TheVariants.{Boolean, Integer, ElementOf}
 use Rattle.asm_node.specs.Tree.{Tree, Const, Var, Within, Get, Oper, Cond, Let, Quant, Trees, none, more}
 use Rattle.asm_node.specs.RuleTree.{Rule, Rules, Skip, Update, Par, Seq, If, Let as LetRule, Forall, Choose, Call, none as no_rule, more as more_rules}
 use Rattle.asm_node.specs.Values.{is_element, whole}
 use Rattle.asm_node.specs.Machine.{Macro}
-
--- truth values, whole numbers, or the elements of the enumeration or abstract domain of a number
-pub data TermType : Type 0 where
-  Boolean : TermType
-  Integer : TermType
-  ElementOf : (domain : ℕ) → TermType
 
 -- the type of a domain's elements: ranges and lists have numbers
 abbrev pub type_of : Universe → TermType
@@ -79,25 +75,35 @@ OperatorMakes op.IsUndefined = MakesTestOfOne
 
 -- ---- variables
 
--- the type of each variable that is bound
+-- the type of each variable that is bound; one that is bound to a term of every type, such as `undef`, has none of its own
 abbrev pub Types : Type 0
-Types = ℕ → Option TermType
+Types = ℕ → Option (Option TermType)
 
 -- no variable is bound
 abbrev pub no_types : Types
 no_types = λ y. None
 
-abbrev pub put_type : ℕ → Option TermType → Types → Types
+abbrev pub put_type : ℕ → Option (Option TermType) → Types → Types
 put_type x type types = λ y. if nat_eq x y then type else types y
+
+-- what is bound so has the type
+abbrev pub Fits : Option (Option TermType) → TermType → Type 0
+Fits None type = ⊥
+Fits (Some None) type = ⊤
+Fits (Some (Some s)) type = s ≡ type
+
+-- the elements of a declared domain
+abbrev pub of_domain : List DeclaredDomain → ℕ → Option (Option TermType)
+of_domain domains d = option_map Some (domain_type domains d)
 
 -- the variables of binders have the types of their domains
 abbrev pub bound_types : List DeclaredDomain → List Binder → Types → Types
 bound_types domains [] types = types
-bound_types domains (b ∷ bs) types = put_type b.variable (domain_type domains b.domain) (bound_types domains bs types)
+bound_types domains (b ∷ bs) types = put_type b.variable (of_domain domains b.domain) (bound_types domains bs types)
 
 -- parameters have the types of their domains, and no other variable is bound
 abbrev pub parameter_types : List DeclaredDomain → List ℕ → List ℕ → Types
-parameter_types domains (x ∷ xs) (d ∷ ds) = put_type x (domain_type domains d) (parameter_types domains xs ds)
+parameter_types domains (x ∷ xs) (d ∷ ds) = put_type x (of_domain domains d) (parameter_types domains xs ds)
 parameter_types domains _ _ = no_types
 
 -- ---- terms
@@ -108,17 +114,17 @@ module _ (signature : Vocabulary) where
     -- a read names a function, has one argument of the type of each of its domains, and the type of its codomain
     -- an operator has the type that it makes of its arguments' types
     -- a conditional has a truth value for its guard, and the type of both branches
-    -- a `let` has the type of its body, where the variable has that of its term
+    -- a `let` has the type of its body, where the variable has no type that its term hasn't
     -- a quantifier has declared domains, and a truth value for its guard
     pub HasType : Types → Tree → TermType → Type 0
     HasType types (Const v) type = IsConstant signature.domains v type
-    HasType types (Var x) type = types x ≡ Some type
+    HasType types (Var x) type = Fits (types x) type
     HasType types (Within d t) type = HasType types t type × (domain_type signature.domains d ≡ Some type)
     HasType types (Get f ts) type =
         (function : Function) × (slice_get signature.functions f ≡ Some function) × HaveDomains types ts function.domains × (domain_type signature.domains function.codomain ≡ Some type)
     HasType types (Oper o ts) type = (ss : List TermType) × HaveTypes types ts ss × OperatorMakes o ss type
     HasType types (Cond g t u) type = HasType types g Boolean × HasType types t type × HasType types u type
-    HasType types (Let x t u) type = (s : TermType) × HasType types t s × HasType (put_type x (Some s) types) u type
+    HasType types (Let x t u) type = (s : Option TermType) × ((r : TermType) → Fits (Some s) r → HasType types t r) × HasType (put_type x (Some s) types) u type
     HasType types (Quant q bs g) type = HasType (bound_types signature.domains bs types) g Boolean × (type ≡ Boolean)
 
     -- the types of terms
@@ -138,7 +144,7 @@ module _ (signature : Vocabulary) where
   module _ (rules : List Macro) where
     abbrev mutual
       -- an update names a kept function, has one argument of the type of each of its domains, and a value of that of its codomain
-      -- guards are truth values; a `let` gives its variable the type of its term, a binder that of its domain
+      -- guards are truth values; the variable of a `let` has no type that its term hasn't, that of a binder has its domain's
       -- a call names a macro rule, and has one term of the type of each parameter's domain
       pub IsTypedRule : Types → Rule → Type 0
       IsTypedRule types (Skip place) = ⊤
@@ -147,7 +153,7 @@ module _ (signature : Vocabulary) where
       IsTypedRule types (Par place rs) = AreTypedRules types rs
       IsTypedRule types (Seq place p q) = IsTypedRule types p × IsTypedRule types q
       IsTypedRule types (If place g p q) = HasType types g Boolean × IsTypedRule types p × IsTypedRule types q
-      IsTypedRule types (LetRule place x t p) = (s : TermType) × HasType types t s × IsTypedRule (put_type x (Some s) types) p
+      IsTypedRule types (LetRule place x t p) = (s : Option TermType) × ((r : TermType) → Fits (Some s) r → HasType types t r) × IsTypedRule (put_type x (Some s) types) p
       IsTypedRule types (Forall place bs g p) = HasType (bound_types signature.domains bs types) g Boolean × IsTypedRule (bound_types signature.domains bs types) p
       IsTypedRule types (Choose place bs g p q) =
           HasType (bound_types signature.domains bs types) g Boolean × IsTypedRule (bound_types signature.domains bs types) p × IsTypedRule types q

@@ -11,7 +11,9 @@ use Rattle.asm_node.specs.Tree.{Tree}
 use Rattle.asm_node.specs.RuleTree.{Rule}
 use Rattle.asm_node.specs.Values.{whole}
 use Rattle.asm_node.specs.Machine.{Machine, Definition, Macro, definition_of, constant_of, is_monitored}
-use Rattle.asm_node.specs.Types.{TermType, Boolean, domain_type, no_types, parameter_types, HasType, IsTypedRule}
+use Rattle.asm_node.specs.declared.term_type.TermType.{TermType}
+use Rattle.asm_node.specs.declared.term_type.TermType.TheVariants.{Boolean}
+use Rattle.asm_node.specs.Types.{domain_type, no_types, parameter_types, HasType, IsTypedRule}
 use Rattle.asm_node.specs.Ranges.{Ranges, no_ranges, AreParameters, IsRanged}
 use Rattle.asm_node.specs.RuleRanges.{IsRangedRule}
 use Rattle.asm_node.specs.Reads.{may_be_read, may_be_called, IsReadable}

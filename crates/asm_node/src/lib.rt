@@ -16,6 +16,7 @@ mod range;
 mod rule;
 mod stop;
 mod term;
+mod term_type;
 #[cfg(test)]
 mod tests;
 mod words;
@@ -35,4 +36,5 @@ pub use range::{definitions_are_ranged, ranges_hold, worlds_are_filled};
 pub use rule::{Rule, RuleKind};
 pub use stop::Stop;
 pub use term::{Binder, Term, TermKind};
+pub use term_type::{TermType, domain_type};
 pub use words::Words;

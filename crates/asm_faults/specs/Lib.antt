@@ -1,0 +1,10 @@
+pub mod At
+pub mod Bodies
+pub mod Calls
+pub mod DomainFaults
+pub mod Files
+pub mod First
+pub mod FunctionFaults
+pub mod Missing
+pub mod Model
+pub mod Terms

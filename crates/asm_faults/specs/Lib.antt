@@ -7,4 +7,5 @@ pub mod First
 pub mod FunctionFaults
 pub mod Missing
 pub mod Model
+pub mod Ranges
 pub mod Terms

@@ -5,6 +5,7 @@ pub mod DomainFaults
 pub mod Files
 pub mod First
 pub mod FunctionFaults
+pub mod Known
 pub mod Missing
 pub mod Model
 pub mod Ranges

@@ -3,6 +3,8 @@
 
 mod fault;
 mod first;
+mod known;
 
 pub use fault::{Fault, ModelFault};
 pub use first::First;
+pub use known::Known;

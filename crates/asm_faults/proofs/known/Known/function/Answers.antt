@@ -1,0 +1,11 @@
+use Rattle.std.proofs.Common.{ap, ◌∙◌}
+use Rattle.std.specs.Str.{bytes_eq}
+use Rattle.asm_sign.specs.declared.function.Function.{Function}
+use Rattle.name_table.specs.Numbered.{number_of}
+use Rattle.asm_faults.specs.At.{Name}
+use Rattle.asm_faults.proofs.Finding.{position-map}
+use Rattle.asm_faults.proofs.known.Known.function.Goals as goal
+
+pub returns : goal.returns
+returns c v rules known =
+    c.find.ensures ∙ ap (λ names. number_of names c.args.name.now) known.functions ∙ position-map (λ (name : Name). bytes_eq name c.args.name.now) (λ (f : Function). f.name) v.functions

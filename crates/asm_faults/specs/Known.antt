@@ -6,7 +6,6 @@ use Rattle.asm_domain.specs.Universe.{Universe, Truths, Numbers, Named, named_fr
 use Rattle.asm_sign.specs.declared.function.DeclaredDomain.{DeclaredDomain}
 use Rattle.asm_sign.specs.declared.function.Function.{Function}
 use Rattle.asm_sign.specs.Vocabulary.{Vocabulary}
-use Rattle.asm_faults.specs.declared.known.Known.{Known}
 use Rattle.asm_faults.specs.At.{Name}
 use Rattle.asm_faults.specs.DomainFaults.{boolean}
 
@@ -36,10 +35,9 @@ values_in (Named number names) = named_from number 0 names
 abbrev pub element_values : DeclaredDomain → List Value
 element_values d = values_in d.domain
 
--- the tables have the names of this vocabulary and of these rules, each table in its order
-pub record IsKnown (known : Known) (v : Vocabulary) (rule_names : List Name) : Type 0 where
-  pub domains : known.domains ≡ map domain_text v.domains
-  pub functions : known.functions ≡ map (λ (f : Function). f.name) v.functions
-  pub rules : known.rules ≡ rule_names
-  pub elements : known.elements ≡ flat_map element_names v.domains
-  pub values : known.values ≡ flat_map element_values v.domains
+-- the tables of a vocabulary, each in the order of what it names
+pub record AreTables (v : Vocabulary) (domains functions elements : List Name) (values : List Value) : Type 0 where
+  pub domains_are : domains ≡ map domain_text v.domains
+  pub functions_are : functions ≡ map (λ (f : Function). f.name) v.functions
+  pub elements_are : elements ≡ flat_map element_names v.domains
+  pub values_are : values ≡ flat_map element_values v.domains

@@ -1,52 +1,70 @@
-//! What names stand for in a model: the numbers of its domains, functions and rules, and its elements.
-ghost use Rattle.std.specs.Prelude.{◌≡◌, ◌++◌, List, map, IfOk, OnOk};
+//! What names stand for in a model: its domains, its functions and the elements of its domains.
+ghost use Rattle.std.specs.Prelude.{◌≡◌, ◌++◌, map, option_copied, IfOk, OnOk};
 ghost use Rattle.std.specs.List.{flat_map};
 ghost use Rattle.asm_domain.specs.Universe.{elements};
-ghost use Rattle.asm_sign.specs.Vocabulary.{Vocabulary};
-ghost use Rattle.name_table.specs.Numbered.{number_of};
-ghost use Rattle.asm_faults.specs.At.{Name};
+ghost use Rattle.asm_node.specs.Types as types;
 ghost use Rattle.asm_faults.specs.DomainFaults.{boolean as boolean_text};
 ghost use Rattle.asm_faults.specs.FunctionFaults.{domain_number};
-ghost use Rattle.asm_faults.specs.Known.{IsKnown, domain_text, names_in, element_names, values_in, element_values};
-ghost use Rattle.asm_faults.specs.Terms.{function_place, element_in};
+ghost use Rattle.asm_faults.specs.Known.{domain_text, names_in, element_names, values_in, element_values};
+ghost use Rattle.asm_faults.specs.Terms.{type_named, function_place, function_named, element_in, element_type};
 
 use asm_domain::{Domain, Value};
 use asm_list::{Listed, Name};
+use asm_node::{TermType, domain_type};
 use asm_sign::{DeclaredDomain, Function, Signature};
 use name_table::Table;
 use std::alloc::{AllocError, Global};
+use std::marker::Model;
 
-/// Tables that find at once what a name stands for in the model of some files.
-#[derive(Drop)]
-pub struct Known {
+/// A signature with tables that find at once what a name stands for. Contracts see it as what the signature is made of.
+#[derive(Debug, Drop)]
+pub struct Known<'a> {
+    alloc: Global,
+    signature: &'a Signature,
     domains: Table,
     functions: Table,
-    rules: Table,
     elements: Table,
     values: Listed<Value>,
 }
 
-impl Known {
-    /// The tables of a model's domains, functions and elements, and of its rules.
-    pub fn new(alloc: Global, signature: &Signature, rules: Table) -> Result<Known, AllocError>
-        ensures { IfOk result (λ known. IsKnown known signature.now rules) }
+impl<'a> Model for Known<'a> {
+    ghost use Rattle.asm_sign.specs.Vocabulary.{Vocabulary};
+    ghost use Rattle.asm_faults.specs.Known.{AreTables};
+
+    ghost Value = { Vocabulary };
+
+    ghost view = { λ k. k.signature.now };
+
+    ghost invariant = { λ k. AreTables k.signature.now k.domains k.functions k.elements k.values };
+}
+
+impl<'a> Known<'a> {
+    /// The tables of a signature.
+    pub fn new(alloc: Global, signature: &'a Signature) -> Result<Known<'a>, AllocError>
+        ensures { IfOk result (λ known. known ≡ signature.now) }
     {
         let domains = domain_names(alloc, signature.domains().slice())?;
         let functions = function_names(alloc, signature.functions().slice())?;
         let elements = element_names(alloc, signature.domains().slice())?;
         let values = element_values(alloc, signature.domains().slice())?;
         Ok(Known {
+            alloc,
+            signature,
             domains,
             functions,
-            rules,
             elements,
             values,
         })
     }
 
+    /// Where further tables take their memory.
+    pub fn alloc(&self) -> Global {
+        self.alloc
+    }
+
     /// The number of a domain; 4,294,967,295 is that of all whole numbers.
     pub fn domain(&self, name: &Name) -> Option<u32>
-        ensures { (v : Vocabulary) (rules : List Name) → IsKnown self.now v rules → result ≡ domain_number v.domains name.now }
+        ensures { result ≡ domain_number self.now.domains name.now }
     {
         if name.text() == "Boolean" {
             return Some(0);
@@ -57,23 +75,43 @@ impl Known {
         self.domains.find(name)
     }
 
+    /// The type of the elements of the domain of a number.
+    pub fn domain_type(&self, domain: u32) -> Option<TermType>
+        ensures { result ≡ types.domain_type self.now.domains domain }
+    {
+        domain_type(self.signature.domains().slice(), domain)
+    }
+
+    /// The type of the elements of a domain.
+    pub fn type_named(&self, name: &Name) -> Option<TermType>
+        ensures { result ≡ type_named self.now name.now }
+    {
+        match self.domain(name) {
+            Some(domain) => self.domain_type(domain),
+            None => None,
+        }
+    }
+
     /// The number of a function.
-    pub fn function(&self, name: &Name) -> Option<u32>
-        ensures { (v : Vocabulary) (rules : List Name) → IsKnown self.now v rules → result ≡ function_place v name.now }
+    pub fn function_number(&self, name: &Name) -> Option<u32>
+        ensures { result ≡ function_place self.now name.now }
     {
         self.functions.find(name)
     }
 
-    /// The number of a rule.
-    pub fn rule(&self, name: &Name) -> Option<u32>
-        ensures { (v : Vocabulary) (rules : List Name) → IsKnown self.now v rules → result ≡ number_of rules name.now }
+    /// The declared function of a name.
+    pub fn function(&self, name: &Name) -> Option<&Function>
+        ensures { option_copied result ≡ function_named self.now name.now }
     {
-        self.rules.find(name)
+        match self.function_number(name) {
+            Some(number) => self.signature.functions().item(number as usize),
+            None => None,
+        }
     }
 
     /// The element of a name, or `undef` where no domain has one of this name.
     pub fn element(&self, name: &Name) -> Value
-        ensures { (v : Vocabulary) (rules : List Name) → IsKnown self.now v rules → result ≡ element_in v.domains name.now }
+        ensures { result ≡ element_in self.now.domains name.now }
     {
         match self.elements.find(name) {
             Some(place) => match self.values.item(place as usize) {
@@ -81,6 +119,18 @@ impl Known {
                 None => Value::Undef,
             },
             None => Value::Undef,
+        }
+    }
+
+    /// The type of the element of a name, where a domain has it.
+    pub fn element_type(&self, name: &Name) -> Option<TermType>
+        ensures { result ≡ element_type (element_in self.now.domains name.now) }
+    {
+        match self.element(name) {
+            Value::Elem(domain, _) => Some(TermType::ElementOf(domain)),
+            Value::Undef => None,
+            Value::Bool(_) => None,
+            Value::Int(_) => None,
         }
     }
 }

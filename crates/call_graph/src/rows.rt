@@ -16,7 +16,7 @@ pub fn chains(alloc: Global, graph: &Graph, length: u32) -> Result<Listed<bool>,
         return Ok(Listed::from_vec(all(alloc, graph)?));
     }
     let mut row = there(alloc, graph)?;
-    for nodes in 1..length {
+    for _ in 1..length {
         row = marked_or_calling(alloc, graph, &row, &[])?;
     }
     Ok(Listed::from_vec(row))
@@ -33,7 +33,7 @@ pub fn touching(
     ensures { IfOk result (λ row. row ≡ for_each graph.now (touches graph.now marked.now calls)) }
 {
     let mut row = marks(alloc, graph, marked)?;
-    for done in 0..calls {
+    for _ in 0..calls {
         row = marked_or_calling(alloc, graph, &row, marked)?;
     }
     Ok(Listed::from_vec(row))
@@ -43,7 +43,7 @@ fn all(alloc: Global, graph: &Graph) -> Result<Vec<bool>, AllocError>
     ensures { IfOk result (λ row. row.items ≡ for_each graph.now (λ n. true)) }
 {
     let mut row = Vec::new(alloc);
-    for number in 0..graph.len() {
+    for _ in 0..graph.len() {
         row.push(true)?;
     }
     Ok(row)

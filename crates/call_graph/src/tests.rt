@@ -33,7 +33,12 @@ fn doubled(alloc: Global, nodes: u32) -> Result<Graph, AllocError> {
     Ok(graph)
 }
 
-fn chains_are(alloc: Global, graph: &Graph, length: u32, expected: &[bool]) -> Result<bool, AllocError> {
+fn chains_are(
+    alloc: Global,
+    graph: &Graph,
+    length: u32,
+    expected: &[bool],
+) -> Result<bool, AllocError> {
     Ok(chains(alloc, graph, length)?.slice() == expected)
 }
 
@@ -45,14 +50,23 @@ fn count_chains(alloc: Global, nodes: u32, length: u32) -> Result<usize, AllocEr
 }
 
 /// Whether the marked nodes are touched by so many calls from the number.
-fn is_touched(alloc: Global, graph: &Graph, marked: &[bool], calls: u32, number: usize) -> Result<bool, AllocError> {
+fn is_touched(
+    alloc: Global,
+    graph: &Graph,
+    marked: &[bool],
+    calls: u32,
+    number: usize,
+) -> Result<bool, AllocError> {
     Ok(touching(alloc, graph, marked, calls)?.item(number).copied() == Some(true))
 }
 
 #[test]
 fn cycles(rt: HostRuntime) -> Result<(), Fail> {
     let graph = six(rt.alloc())?;
-    for (node, expected) in [true, true, true, false, false, false, false].iter().enumerate() {
+    for (node, expected) in [true, true, true, false, false, false, false]
+        .iter()
+        .enumerate()
+    {
         assert_eq!(rt; leads_to_itself(rt.alloc(), &graph, node)?, *expected);
     }
     Ok(())
@@ -61,7 +75,12 @@ fn cycles(rt: HostRuntime) -> Result<(), Fail> {
 #[test]
 fn chains_in_cycles(rt: HostRuntime) -> Result<(), Fail> {
     let graph = six(rt.alloc())?;
-    for (length, last) in [(0, [true, true]), (1, [false, true]), (2, [false, false]), (33, [false, false])] {
+    for (length, last) in [
+        (0, [true, true]),
+        (1, [false, true]),
+        (2, [false, false]),
+        (33, [false, false]),
+    ] {
         let expected = [true, true, true, true, last[0], last[1]];
         assert!(rt; chains_are(rt.alloc(), &graph, length, &expected)?);
     }

@@ -9,12 +9,12 @@ returns-then-length-eq0 c =
     c.from_vec.ensures ∙ c.in_ok-all.ensures ∙ chains_none c.args.graph.now
     ∙ ap (λ k. for_each c.args.graph.now (has_chain c.args.graph.now k)) (sym c.if-length-eq0.true)
 
-pub loop-nodes-init : goal.loop-nodes-init
-loop-nodes-init c = c.in_ok-row.ensures ∙ chains_one c.args.graph.now
+pub loop-init : goal.loop-init
+loop-init c = c.in_ok-row.ensures ∙ chains_one c.args.graph.now
 
-pub loop-nodes-preserved : goal.loop-nodes-preserved
-loop-nodes-preserved c =
-    chains_step c.args.graph.now c.loop-nodes.nodes c.loop-nodes.row.items c.in_ok-row-2.row.items
-    c.loop-nodes.auto.nodes
-    c.loop-nodes.invariant
+pub loop-preserved : goal.loop-preserved
+loop-preserved c =
+    chains_step c.args.graph.now c.loop.counter c.loop.row.items c.in_ok-row-2.row.items
+    c.loop.auto.counter
+    c.loop.invariant
     (c.in_ok-row-2.ensures ∙ ap (λ row. for_each c.args.graph.now (is_marked_or_calls c.args.graph.now row [])) c.deref.ensures.value)

@@ -1,6 +1,5 @@
 -- How nodes lead on.
-use Rattle.std.proofs.Common.{◌≡◌, ℕ, zero, suc, ◌<◌, ◌≤◌, List, [], length, eqb, Bool, true, false, ◌||◌, ◌⊎◌, inl, inr, refl, ap, sym, ◌∙◌, subst, arith}
-use Rattle.std.specs.List.{list_any}
+use Rattle.std.proofs.Common.{◌≡◌, ℕ, zero, suc, ◌<◌, ◌≤◌, List, length, eqb, true, false, ◌||◌, ◌⊎◌, inl, inr, refl, ap, sym, ◌∙◌, subst, arith}
 use Rattle.call_graph.specs.declared.graph.Node.{Node}
 use Rattle.call_graph.specs.Calls.{calls_at, leads}
 use Rattle.call_graph.proofs.Found.{In, or_left, or_right, or_cases, found, found_by, eqb_same, eqb_itself}

@@ -1,14 +1,14 @@
 -- A row made from the row before says what one more call allows.
-use Rattle.std.proofs.Common.{◌≡◌, ℕ, zero, suc, ◌+◌, ◌<◌, ◌≤◌, List, [], ◌∷◌, ◌++◌, length, get_or, map, Bool, true, false, ◌||◌, ◌⊎◌, inl, inr, refl, ap, sym, ◌∙◌, arith, add-one}
+use Rattle.std.proofs.Common.{◌≡◌, ℕ, zero, suc, ◌+◌, ◌<◌, ◌≤◌, List, [], ◌∷◌, ◌++◌, length, map, Bool, true, false, ◌||◌, inl, inr, refl, ap, sym, ◌∙◌, arith, add-one}
 use Rattle.std.specs.List.{list_any, range_with_len}
 use Rattle.std.proofs.lemmas.List.{get_or_past}
 use Rattle.std.proofs.lemmas.List.FromFn.{get_or-map-range_with_len, length-map-range_with_len, map-range_with_len_more}
 use Rattle.std.proofs.lemmas.Bool.{cases_lt}
 use Rattle.call_graph.specs.declared.graph.Node.{Node}
 use Rattle.call_graph.specs.Calls.{calls_at, is_there, is_in, has_chain, touches}
-use Rattle.call_graph.specs.Rows.{for_each, calls_into, is_marked_or_calls}
-use Rattle.call_graph.proofs.Found.{In, or_true, or_false, or_left, or_right, is_false, not_both, found}
-use Rattle.call_graph.proofs.Nodes.{calls_below, there_below, no_calls}
+use Rattle.call_graph.specs.Rows.{for_each, is_marked_or_calls}
+use Rattle.call_graph.proofs.Found.{or_true, or_false, or_left, is_false}
+use Rattle.call_graph.proofs.Nodes.{there_below, no_calls}
 
 row_at : (g : List Node) (p : ℕ → Bool) (n : ℕ) → n < length g → is_in (for_each g p) n ≡ p n
 row_at g p n lt = get_or-map-range_with_len p 0 (length g) n n false lt (omega arith)

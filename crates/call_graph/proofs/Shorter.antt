@@ -1,7 +1,6 @@
 -- Where chains are short, few calls touch all that any number of calls touches, and no node leads to itself.
-use Rattle.std.proofs.Common.{◌≡◌, ℕ, zero, suc, ◌+◌, ◌<◌, ◌≤◌, List, [], length, Bool, true, false, ◌||◌, ◌⊎◌, inl, inr, refl, ap, sym, ◌∙◌, subst, arith, add-one}
+use Rattle.std.proofs.Common.{◌≡◌, ℕ, zero, suc, ◌+◌, ◌<◌, ◌≤◌, List, length, Bool, true, false, ◌⊎◌, inl, inr, refl, ap, sym, ◌∙◌, subst, arith, add-one}
 use Rattle.std.specs.List.{list_any}
-use Rattle.std.proofs.lemmas.Bool.{cases_lt}
 use Rattle.call_graph.specs.declared.graph.Node.{Node}
 use Rattle.call_graph.specs.Calls.{calls_at, is_in, has_chain, leads, touches, HasNoChain}
 use Rattle.call_graph.proofs.Found.{In, or_left, or_right, or_cases, found, found_by, both_ways, is_false, not_both}

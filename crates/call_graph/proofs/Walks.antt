@@ -1,7 +1,7 @@
 -- The walk that looks whether a node leads to itself.
 use Rattle.std.proofs.Common.{◌≡◌, ℕ, zero, suc, ◌+◌, ◌<◌, ◌≤◌, List, [], ◌∷◌, ◌++◌, length, get_or, set, replicate, Bool, true, false, cond, ◌⊎◌, inl, inr, refl, ap, sym, ◌∙◌, subst, arith, length-append}
-use Rattle.std.proofs.lemmas.List.{get_or_past, get_or_default, get_or-set_other, length-replicate, length-set}
-use Rattle.std.proofs.lemmas.Bool.{cases_lt, cases_eq}
+use Rattle.std.proofs.lemmas.List.{get_or_default, get_or-set_other, length-replicate, length-set}
+use Rattle.std.proofs.lemmas.Bool.{cases_eq}
 use Rattle.call_graph.specs.declared.graph.Node.{Node}
 use Rattle.call_graph.specs.Calls.{calls_of, calls_at, is_in, leads}
 use Rattle.call_graph.proofs.Found.{In, in_left, in_right, in_either, in_pushed, is_false, not_both}

@@ -1,4 +1,4 @@
-use Rattle.std.proofs.Common.{◌≡◌, ℕ, ◌-◌, [], take, false, true, ◌++◌, sym, ap, ◌∙◌}
+use Rattle.std.proofs.Common.{◌≡◌, ℕ, ◌-◌, [], take, false, ◌++◌, sym, ap, ◌∙◌}
 use Rattle.call_graph.specs.Calls.{leads}
 use Rattle.call_graph.proofs.Walks.{is_done, starts, skips, visited, fewer, finds, ends}
 use Rattle.call_graph.proofs.cycle.leads_to_itself.Goals as goal

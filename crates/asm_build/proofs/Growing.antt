@@ -1,5 +1,5 @@
 -- What was made stays while more is made.
-use Rattle.std.proofs.Common.{◌≡◌, ℕ, zero, suc, List, [], ◌∷◌, ◌++◌, ◌+◌, ◌≤◌, map, take, length, Option, Some, None, slice_get, slice_index_or, All, Bool as Truth, true, false, cond, refl, sym, ap, ◌∙◌, subst, append_assoc, arith}
+use Rattle.std.proofs.Common.{◌≡◌, ℕ, zero, suc, List, [], ◌∷◌, ◌++◌, ◌+◌, ◌≤◌, map, take, length, Some, None, slice_index_or, All, Bool as Truth, true, false, cond, refl, sym, ap, ◌∙◌, subst, append_assoc, arith}
 use Rattle.std.specs.Str.{bytes_eq}
 use Rattle.std.specs.List.{position_from}
 use Rattle.std.specs.Option.{option_or}
@@ -12,7 +12,6 @@ use Rattle.name_table.specs.Numbered.{number_of}
 use Rattle.name_table.proofs.Numbers.{number_of-push, alone}
 use Rattle.asm_node.specs.declared.term.Term.{Term}
 use Rattle.asm_node.specs.declared.term.Binder.{Binder}
-use Rattle.asm_node.specs.declared.rule.Rule as of_rule
 use Rattle.asm_node.specs.Tree.{Tree, plain}
 use Rattle.asm_node.specs.Pool.{terms_of, rules_of, HasTerm}
 use Rattle.asm_node.proofs.Growing.{front_stays}

@@ -1,15 +1,13 @@
 -- Nested terms from the last part on.
-use Rattle.std.proofs.Common.{◌≡◌, ℕ, zero, suc, ◌+◌, ◌-◌, ◌<◌, List, [], ◌∷◌, ◌++◌, map, drop, length, Option, Some, slice_get, slice_index_or, refl, sym, ap, ◌∙◌, subst, arith}
+use Rattle.std.proofs.Common.{◌≡◌, ℕ, zero, suc, ◌+◌, ◌-◌, ◌<◌, List, [], ◌∷◌, ◌++◌, map, drop, length, Some, slice_get, refl, sym, ap, ◌∙◌, subst, arith}
 use Rattle.std.specs.declared.rc.Rc.{Rc}
 use Rattle.std.specs.declared.alloc.Global.{Global}
 use Rattle.asm_node.specs.declared.term.Term.{Term}
-use Rattle.asm_node.specs.declared.pool.Pool.{Pool}
-use Rattle.asm_node.specs.Pool.{terms_of, HasTerm, HasArguments}
+use Rattle.asm_node.specs.Pool.{HasTerm, HasArguments}
 use Rattle.asm_node.specs.Tree.{Tree, Let, Cond, plain}
 use Rattle.asm_build.specs.declared.maker.Maker.{Maker}
-use Rattle.asm_build.specs.Made.{HasGrown, IsTerm, plains}
+use Rattle.asm_build.specs.Made.{IsTerm, plains}
 use Rattle.asm_build.specs.Forms.{bounds_from, cases_from, test}
-use Rattle.asm_build.proofs.Growing.{grown_on, same_maker, term_stays, same_tree}
 
 pub drop_at : {A : Type 0} (xs : List A) (j : ℕ) (x : A) → slice_get xs j ≡ Some x → drop j xs ≡ x ∷ drop (suc j) xs
 drop_at [] j x e = absurd (cc (e))

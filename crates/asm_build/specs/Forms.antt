@@ -1,5 +1,5 @@
 -- Terms of several parts, from the trees of the parts.
-use Rattle.std.specs.Prelude.{ℕ, List, [], ◌∷◌}
+use Rattle.std.specs.Prelude.{ℕ, List, ◌∷◌}
 use Rattle.asm_node.specs.declared.operator.Op.TheVariants.{Equal}
 use Rattle.asm_node.specs.Tree.{Tree, Cond, Oper, Let, more, none}
 

@@ -1,9 +1,8 @@
 -- Nodes that are made for raw terms, with numbers for their variables.
-use Rattle.std.specs.Prelude.{◌≡◌, ℕ, List, ◌++◌, map, Some, All}
+use Rattle.std.specs.Prelude.{◌≡◌, ℕ, List, ◌++◌, map, Some}
 use Rattle.std.specs.declared.rc.Rc.{Rc}
 use Rattle.std.specs.declared.alloc.Global.{Global}
 use Rattle.name_table.specs.Numbered.{number_of}
-use Rattle.asm_node.specs.declared.pool.Pool.{Pool}
 use Rattle.asm_node.specs.declared.term.Term.{Term}
 use Rattle.asm_node.specs.declared.term.Binder.{Binder}
 use Rattle.asm_node.specs.declared.rule.Rule as of_rule

@@ -2,8 +2,8 @@
 #![tactic(auto)]
 
 mod maker;
+mod nodes;
 mod operator;
-mod term;
 
 pub use maker::Maker;
-pub use term::{binders_of, term, terms};
+pub use nodes::{binders_of, term, terms};

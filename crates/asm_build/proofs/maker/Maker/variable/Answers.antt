@@ -1,6 +1,5 @@
-use Rattle.std.proofs.Common.{◌≡◌, None, Some, [], ◌∷◌, ◌++◌, refl, sym, ◌∙◌, ap, subst}
+use Rattle.std.proofs.Common.{◌≡◌, Some, [], ◌∷◌, ◌++◌, refl, sym, ◌∙◌, ap}
 use Rattle.name_table.specs.Numbered.{number_of}
-use Rattle.asm_faults.specs.At.{Name}
 use Rattle.asm_build.proofs.Growing.{same_maker, grown_names, number_added}
 use Rattle.asm_build.proofs.maker.Maker.variable.Goals as goal
 

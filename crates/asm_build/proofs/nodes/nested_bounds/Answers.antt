@@ -1,13 +1,10 @@
-use Rattle.std.proofs.Common.{◌≡◌, ℕ, ◌-◌, ◌<◌, List, length, slice_get, Some, refl, sym, ap, ◌∙◌, subst, arith}
-use Rattle.std.specs.declared.rc.Rc.{Rc}
-use Rattle.std.specs.declared.alloc.Global.{Global}
+use Rattle.std.proofs.Common.{◌≡◌, ℕ, ◌-◌, ◌<◌, length, slice_get, Some, refl, sym, ap, ◌∙◌, subst, arith}
 use Rattle.asm_node.specs.declared.term.Term.{Term}
 use Rattle.asm_node.specs.Pool.{terms_of, HasTerm}
-use Rattle.asm_node.specs.Tree.{Tree, Let, plain}
-use Rattle.asm_build.specs.Made.{HasGrown, IsTerm, plains}
+use Rattle.asm_node.specs.Tree.{Let, plain}
 use Rattle.asm_build.proofs.Growing.{grown_on, same_maker, same_tree, agrees_back, term_stays}
 use Rattle.asm_build.proofs.Nesting.{from_last, one_more, bounds_done, held_at}
-use Rattle.asm_build.proofs.term.nested_bounds.Goals as goal
+use Rattle.asm_build.proofs.nodes.nested_bounds.Goals as goal
 
 pub done-init : goal.done-init
 done-init c = record {

@@ -1,7 +1,7 @@
-use Rattle.std.proofs.Common.{◌≡◌, ap, sym}
+use Rattle.std.proofs.Common.{ap, sym}
 use Rattle.asm_node.specs.Tree.{Var}
 use Rattle.asm_build.proofs.Growing.{same_tree, agrees_back, grown_on}
-use Rattle.asm_build.proofs.term.variable.Goals as goal
+use Rattle.asm_build.proofs.nodes.variable.Goals as goal
 
 pub returns-clause-made : goal.returns-clause-made
 returns-clause-made c = same_tree _ _ (λ number agrees.

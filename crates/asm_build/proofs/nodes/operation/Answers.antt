@@ -1,11 +1,11 @@
-use Rattle.std.proofs.Common.{◌≡◌, [], ◌∷◌, ◌++◌, ap, ◌∙◌}
+use Rattle.std.proofs.Common.{[], ◌∷◌, ◌++◌, ap, ◌∙◌}
 use Rattle.asm_node.specs.Pool.{terms_of}
 use Rattle.asm_node.specs.Tree.{Oper, plain_all}
 use Rattle.asm_node.proofs.Growing.{children-Oper}
 use Rattle.asm_node.proofs.Trees.{plain_kind-Oper}
 use Rattle.asm_build.proofs.Growing.{same_tree}
 use Rattle.asm_build.proofs.Nesting.{two_held}
-use Rattle.asm_build.proofs.term.operation.Goals as goal
+use Rattle.asm_build.proofs.nodes.operation.Goals as goal
 
 pub make-requires : goal.make-requires
 make-requires c =

@@ -1,11 +1,11 @@
-use Rattle.std.proofs.Common.{◌≡◌, sym, ap, ◌∙◌, subst}
+use Rattle.std.proofs.Common.{sym, ap, ◌∙◌, subst}
 use Rattle.asm_node.specs.declared.operator.Op.TheVariants.{Equal}
 use Rattle.asm_node.specs.declared.term.Term.{Term}
 use Rattle.asm_node.specs.Pool.{terms_of, HasTerm}
 use Rattle.asm_node.specs.Tree.{Tree, Cond, Oper, more, none, plain}
 use Rattle.asm_build.specs.Forms.{test}
 use Rattle.asm_build.proofs.Growing.{grown_on, same_tree, agrees_back, term_stays}
-use Rattle.asm_build.proofs.term.one_case.Goals as goal
+use Rattle.asm_build.proofs.nodes.one_case.Goals as goal
 
 pub operation-requires-clause-left : goal.operation-requires-clause-left
 operation-requires-clause-left c = subst (λ (u : Term). HasTerm (terms_of c.args.maker.now.pool) u) (sym c.in_ok-clone.ensures.cases) c.requires.subject

@@ -1,7 +1,7 @@
 use Rattle.std.proofs.Common.{take}
 use Rattle.asm_faults.specs.Model.{binders_of}
 use Rattle.asm_build.specs.Made.{HasGrown, AreBinders}
-use Rattle.asm_build.proofs.term.binders_of.Given as goal
+use Rattle.asm_build.proofs.nodes.binders_of.Given as goal
 
 abbrev pub invariant-raws : goal.invariant-raws
 invariant-raws l = record {

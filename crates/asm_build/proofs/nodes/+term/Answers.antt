@@ -1,9 +1,8 @@
-use Rattle.std.proofs.Common.{◌≡◌, ℕ, suc, ◌+◌, List, [], ◌∷◌, ◌++◌, map, take, length, refl, sym, ap, ◌∙◌, subst, arith}
+use Rattle.std.proofs.Common.{◌≡◌, ℕ, suc, ◌+◌, List, [], ◌∷◌, ◌++◌, map, take, length, refl, sym, ap, ◌∙◌}
 use Rattle.std.proofs.lemmas.List.{take_more}
 use Rattle.asm_node.specs.declared.operator.Op.{Op}
 use Rattle.asm_node.specs.declared.operator.Quantifier.{Quantifier}
 use Rattle.asm_node.specs.declared.term.Binder.{Binder}
-use Rattle.asm_node.specs.Pool.{terms_of}
 use Rattle.asm_node.specs.Tree as tree
 use Rattle.asm_node.specs.Tree.{Tree, plain, plain_all}
 use Rattle.asm_node.proofs.Growing.{children-Get}
@@ -14,10 +13,10 @@ use Rattle.asm_tree.specs.declared.term.RawBind.{RawBind}
 use Rattle.asm_faults.specs.Model.{tree_of, trees_of, function_number, binders_of}
 use Rattle.asm_build.specs.Made.{plains}
 use Rattle.asm_build.specs.Forms.{cases_from, bounds_from}
-use Rattle.asm_build.proofs.Growing.{same_maker, grown_on, agrees_back, term_stays, terms_stay, same_tree, made_terms, made_numbers, pushed_term, pushed_number, took_all, length_push, no_terms, no_numbers, same_trees, same_numbers, mapped_more}
+use Rattle.asm_build.proofs.Growing.{same_maker, grown_on, agrees_back, terms_stay, same_tree, made_terms, made_numbers, pushed_term, pushed_number, took_all, length_push, no_terms, no_numbers, same_trees, same_numbers, mapped_more}
 use Rattle.asm_build.proofs.TreeForms as forms
 use Rattle.asm_build.proofs.TreeForms.{all_plain}
-use Rattle.asm_build.proofs.term.+term.Goals as goal
+use Rattle.asm_build.proofs.nodes.+term.Goals as goal
 
 -- ---- arguments
 

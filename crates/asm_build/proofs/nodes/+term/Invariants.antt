@@ -1,9 +1,9 @@
-use Rattle.std.proofs.Common.{◌≡◌, ℕ, List, map, take, length}
+use Rattle.std.proofs.Common.{◌≡◌, map, take, length}
 use Rattle.asm_tree.specs.declared.term.RawCase.{RawCase}
 use Rattle.asm_tree.specs.declared.term.RawBind.{RawBind}
 use Rattle.asm_faults.specs.Model.{tree_of}
 use Rattle.asm_build.specs.Made.{HasGrown, AreTerms, AreNumbers}
-use Rattle.asm_build.proofs.term.+term.Given as goal
+use Rattle.asm_build.proofs.nodes.+term.Given as goal
 
 abbrev pub invariant-terms-raws : goal.invariant-terms-raws
 invariant-terms-raws l = record {

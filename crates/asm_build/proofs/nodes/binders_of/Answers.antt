@@ -1,12 +1,11 @@
-use Rattle.std.proofs.Common.{◌≡◌, ℕ, ◌+◌, List, [], ◌∷◌, ◌++◌, map, take, sym, ap, ◌∙◌}
+use Rattle.std.proofs.Common.{ℕ, List, [], ◌∷◌, ◌++◌, map, take, sym, ap, ◌∙◌}
 use Rattle.std.proofs.lemmas.List.{take_more}
 use Rattle.asm_node.specs.declared.term.Binder.{Binder}
 use Rattle.asm_tree.specs.declared.term.RawBinder.{RawBinder}
 use Rattle.asm_faults.specs.FunctionFaults.{number_or_whole}
 use Rattle.asm_faults.specs.Model.{binders_of}
-use Rattle.asm_build.specs.Made.{Agrees}
 use Rattle.asm_build.proofs.Growing.{same_maker, grown_on, agrees_back, map_push, took_all}
-use Rattle.asm_build.proofs.term.binders_of.Goals as goal
+use Rattle.asm_build.proofs.nodes.binders_of.Goals as goal
 
 pub raws-init : goal.raws-init
 raws-init c = record { made = record { are = λ number agrees. c.new-binders.ensures }; grown = same_maker c.args.maker.now }

@@ -1,12 +1,10 @@
-use Rattle.std.proofs.Common.{◌≡◌, ℕ, ◌-◌, ◌<◌, List, length, slice_get, Some, refl, sym, ap, ◌∙◌, subst, arith}
-use Rattle.asm_node.specs.declared.term.Term.{Term}
-use Rattle.asm_node.specs.Pool.{terms_of, HasTerm}
-use Rattle.asm_node.specs.Tree.{Tree, Cond, plain}
-use Rattle.asm_build.specs.Made.{HasGrown, IsTerm, plains}
+use Rattle.std.proofs.Common.{◌≡◌, ℕ, ◌-◌, ◌<◌, length, slice_get, Some, refl, sym, ap, ◌∙◌, subst, arith}
+use Rattle.asm_node.specs.Pool.{terms_of}
+use Rattle.asm_node.specs.Tree.{Cond, plain}
 use Rattle.asm_build.specs.Forms.{test}
 use Rattle.asm_build.proofs.Growing.{grown_on, same_maker, same_tree, agrees_back, term_stays}
 use Rattle.asm_build.proofs.Nesting.{cases_from_last, one_more_case, cases_done, held_at}
-use Rattle.asm_build.proofs.term.nested_cases.Goals as goal
+use Rattle.asm_build.proofs.nodes.nested_cases.Goals as goal
 
 pub done-init : goal.done-init
 done-init c = record {

@@ -2,7 +2,7 @@ use Rattle.std.proofs.Common.{◌-◌, drop, length}
 use Rattle.asm_node.specs.Tree.{plain}
 use Rattle.asm_build.specs.Made.{HasGrown, IsTerm, plains}
 use Rattle.asm_build.specs.Forms.{bounds_from}
-use Rattle.asm_build.proofs.term.nested_bounds.Given as goal
+use Rattle.asm_build.proofs.nodes.nested_bounds.Given as goal
 
 -- what stands behind the bounds that are done
 abbrev pub invariant-done : goal.invariant-done

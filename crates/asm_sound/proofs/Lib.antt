@@ -1,0 +1,4 @@
+pub mod Inductions
+pub mod Folding
+pub mod Scopes
+pub mod TypedTerms

@@ -34,7 +34,7 @@ Parts P (RawTermKind-F.Switch t cs u) = P t × Every (λ (c : RawCase). P c.labe
 Parts P (RawTermKind-F.Let bs t) = Every (λ (b : RawBind). P b.term) bs × P t
 Parts P (RawTermKind-F.Quant q bs g) = P g
 
-every : {A : Type 0} (P : A → Type 0) (xs : List ((x : A) × P x)) → Every P (map (λ (e : (x : A) × P x). e.0) xs)
+pub every : {A : Type 0} (P : A → Type 0) (xs : List ((x : A) × P x)) → Every P (map (λ (e : (x : A) × P x). e.0) xs)
 every P [] = tt
 every P (x ∷ xs) = (x.1, every P xs)
 

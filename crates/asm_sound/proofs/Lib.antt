@@ -1,4 +1,6 @@
-pub mod Inductions
 pub mod Folding
+pub mod Inductions
+pub mod RuleForms
 pub mod Scopes
+pub mod TypedRules
 pub mod TypedTerms

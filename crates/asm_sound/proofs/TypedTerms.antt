@@ -67,7 +67,7 @@ same_types (ElementOf d) Boolean e = absurd (true≢false (sym e))
 same_types (ElementOf d) Integer e = absurd (true≢false (sym e))
 same_types (ElementOf d) (ElementOf k) e = ap ElementOf (same_number d k e)
 
-to_first : (a b : Option TermType) (r : TermType) → Fits (Some (or_else a b)) r → Fits (Some a) r
+pub to_first : (a b : Option TermType) (r : TermType) → Fits (Some (or_else a b)) r → Fits (Some a) r
 to_first None b r f = tt
 to_first (Some q) b r f = f
 
@@ -80,7 +80,7 @@ some_type None = (Boolean, tt)
 some_type (Some r) = (r, refl)
 
 module _ (v : Vocabulary) (n : ℕ) where
-  agree : (a : TermType) (own : Option TermType) (at : ℕ) (first : Name) → mismatch v n (Some a) own at first ≡ [] → Fits (Some own) a
+  pub agree : (a : TermType) (own : Option TermType) (at : ℕ) (first : Name) → mismatch v n (Some a) own at first ≡ [] → Fits (Some own) a
   agree a None at first e = tt
   agree a (Some q) at first e = sym (same_types a q (holds (same_type a q) (token WrongType n at first) e))
 
@@ -91,13 +91,13 @@ module _ (v : Vocabulary) (n : ℕ) where
   to_middle : (a b c : Option TermType) (at : ℕ) (first : Name) → mismatch v n a b at first ≡ [] → (r : TermType) → Fits (Some (or_else a (or_else b c))) r → Fits (Some b) r
   to_middle a b c at first e r f = to_second a b at first e r (to_first (or_else a b) c r (assoc a b c r f))
 
-  pick : (a b : Option TermType) (at : ℕ) (first : Name) → mismatch v n a b at first ≡ [] → (r : TermType) × Fits (Some a) r × Fits (Some b) r
+  pub pick : (a b : Option TermType) (at : ℕ) (first : Name) → mismatch v n a b at first ≡ [] → (r : TermType) × Fits (Some a) r × Fits (Some b) r
   pick a b at first e = let c = some_type (or_else a b) in (c.0, to_first a b c.0 c.1, to_second a b at first e c.0 c.1)
 
-  asked_own : (a : Option TermType) (scope : Scope) (j : Judged) → asked v n a scope j ≡ [] → j.faults scope ≡ []
+  pub asked_own : (a : Option TermType) (scope : Scope) (j : Judged) → asked v n a scope j ≡ [] → j.faults scope ≡ []
   asked_own a scope j e = none_left (j.faults scope) (mismatch v n a (j.type scope) j.at j.first) e
 
-  asked_fits : (a : Option TermType) (scope : Scope) (j : Judged) → asked v n a scope j ≡ [] → mismatch v n a (j.type scope) j.at j.first ≡ []
+  pub asked_fits : (a : Option TermType) (scope : Scope) (j : Judged) → asked v n a scope j ≡ [] → mismatch v n a (j.type scope) j.at j.first ≡ []
   asked_fits a scope j e = none_right (j.faults scope) (mismatch v n a (j.type scope) j.at j.first) e
 
 -- ---- elements
@@ -236,21 +236,23 @@ module _ (number : Name → ℕ) (numbering : IsNumbering number) (v : Vocabular
         arguments_typed ds ts known.1 sound.1 scope types agrees (omega (arith, same_length)) others,
       )
 
+  -- the arguments of a function that is declared
+  pub actuals_typed : (at : ℕ) (f : Name) (ts : List RawTerm) → Every SoundTerm ts → (scope : Scope) (types : Types) → Agrees number scope types
+      → (g : Function) → function_named v f ≡ Some g → call_faults v n at f scope (map (judged v n) ts) (Some g) ≡ [] → HaveDomains v types (trees_of number v (map (tree_of number v) ts)) g.domains
+  actuals_typed at f ts sound scope types agrees g is e =
+      let js : List Judged = map (judged v n) ts in
+      let arity = holds (nat_eq (length g.domains) (length js)) (token WrongArity n at f) (none_left (arity_faults v n at f (length g.domains) (length js)) (asked_each v n (map (domain_type v.domains) g.domains) scope js) e) in
+      let others = none_right (arity_faults v n at f (length g.domains) (length js)) (asked_each v n (map (domain_type v.domains) g.domains) scope js) e in
+      arguments_typed g.domains ts (ready.arguments (function_number number v f) g (function_found number v f g is)) sound scope types agrees (same_number (length g.domains) (length js) arity) others
+
   call_typed : (at : ℕ) (f : Name) (ts : List RawTerm) → Every SoundTerm ts → (scope : Scope) (types : Types) → Agrees number scope types
       → (o : Option Function) → function_named v f ≡ o → call_faults v n at f scope (map (judged v n) ts) o ≡ [] → (s : TermType) → Fits (Some (call_type v n o)) s
       → HasType v types (tree.Get (function_number number v f) (trees_of number v (map (tree_of number v) ts))) s
   call_typed at f ts sound scope types agrees None is e s fits = absurd (full (token Unknown n at f) (asked_each v n [] scope (map (judged v n) ts)) e)
   call_typed at f ts sound scope types agrees (Some g) is e s fits =
-      let js : List Judged = map (judged v n) ts in
-      let arity = holds (nat_eq (length g.domains) (length js)) (token WrongArity n at f) (none_left (arity_faults v n at f (length g.domains) (length js)) (asked_each v n (map (domain_type v.domains) g.domains) scope js) e) in
-      let others = none_right (arity_faults v n at f (length g.domains) (length js)) (asked_each v n (map (domain_type v.domains) g.domains) scope js) e in
       let here = function_found number v f g is in
-      let result = ready.results (function_number number v f) g here in (
-        g,
-        here,
-        arguments_typed g.domains ts (ready.arguments (function_number number v f) g here) sound scope types agrees (same_number (length g.domains) (length js) arity) others,
-        result.1 ∙ ap (λ (z : TermType). Some z) (subst (λ (o : Option TermType). Fits (Some o) s) result.1 fits),
-      )
+      let result = ready.results (function_number number v f) g here in
+      (g, here, actuals_typed at f ts sound scope types agrees g is e, result.1 ∙ ap (λ (z : TermType). Some z) (subst (λ (o : Option TermType). Fits (Some o) s) result.1 fits))
 
   variable_typed : (at : ℕ) (x : Name) (s : TermType) (o : Option (Option TermType)) → variable_faults v n at x o ≡ [] → Fits (Some (joined o)) s → Fits o s
   variable_typed at x s None e f = absurd (full (token Unbound n at x) [] e)
@@ -374,3 +376,7 @@ module _ (number : Name → ℕ) (numbering : IsNumbering number) (v : Vocabular
       induct SoundTerm (λ at first k h.
       subst (λ (u : Tree). Sound (judged v n (at_form at first k)) u) (sym (tree_at number v at first k))
       (subst (λ (j : Judged). Sound j (tree_kind number v (tree_form number v k))) (sym (judged_at v n at first k)) (form_typed at first k h)))
+
+  pub terms_typed : (ts : List RawTerm) → Every SoundTerm ts
+  terms_typed [] = tt
+  terms_typed (t ∷ ts) = (term_typed t, terms_typed ts)

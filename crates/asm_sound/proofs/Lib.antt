@@ -1,4 +1,6 @@
+pub mod Definitions
 pub mod Folding
+pub mod Heads
 pub mod Inductions
 pub mod RuleForms
 pub mod Scopes

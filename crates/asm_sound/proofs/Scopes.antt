@@ -137,6 +137,14 @@ known_domain v n d truths none = by (domain_number v.domains d.text) refl
     by (Some k) e = (let r = typed v d.text k truths e in
         ap (λ (o : Option ℕ). of_domain v.domains (unwrap_or o whole)) e ∙ ap (option_map (λ (type : TermType). Some type)) r.1 ∙ sym (ap (λ (type : Option TermType). Some type) (ap (by_number v) e ∙ r.1)))
 
+-- the type by its name is that by its number
+pub same_type_named : (v : Vocabulary) (n : ℕ) (d : RawName) → unknown_domain v.domains n d ≡ [] → type_named v d.text ≡ domain_type v.domains (number_or_whole v.domains d)
+same_type_named v n d none = by (domain_number v.domains d.text) refl
+  where
+    by : (o : Option ℕ) → domain_number v.domains d.text ≡ o → type_named v d.text ≡ domain_type v.domains (number_or_whole v.domains d)
+    by None e = absurd (full (fault_at Unknown n d) [] (sym (ap (unless_number n d) e) ∙ none))
+    by (Some k) e = ap (by_number v) e ∙ sym (ap (λ (o : Option ℕ). domain_type v.domains (unwrap_or o whole)) e)
+
 -- and it has a type
 pub typed_domain : (v : Vocabulary) (n : ℕ) (d : RawName) → HasTruths v → unknown_domain v.domains n d ≡ [] → (r : TermType) × (domain_type v.domains (number_or_whole v.domains d) ≡ Some r)
 typed_domain v n d truths none = by (domain_number v.domains d.text) refl

@@ -102,7 +102,7 @@ module _ (v : Vocabulary) (n : ℕ) where
 
 -- ---- elements
 
-no_some : {A : Type 0} (x : A) → (◌≡◌ {A = Option A} None (Some x)) → ⊥
+pub no_some : {A : Type 0} (x : A) → (◌≡◌ {A = Option A} None (Some x)) → ⊥
 no_some x e = cc e
 
 or_true : (b : Truth) → (b || true) ≡ true

@@ -2,6 +2,7 @@ pub mod Definitions
 pub mod Folding
 pub mod Heads
 pub mod Inductions
+pub mod MacroRules
 pub mod RuleForms
 pub mod Scopes
 pub mod TypedRules

@@ -1,3 +1,4 @@
+pub mod Called
 pub mod Definitions
 pub mod Folding
 pub mod Heads

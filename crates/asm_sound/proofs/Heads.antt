@@ -52,7 +52,7 @@ some_is x y e = ap (λ o. unwrap_or o x) e
 
 -- ---- heads
 
-head_found : (v : Vocabulary) (rs : List DeclaredRule) (r : Name) → head_named (map (head_of v) rs) r ≡ option_map (head_of v) (find (λ (q : DeclaredRule). has_name r q.name) rs)
+pub head_found : (v : Vocabulary) (rs : List DeclaredRule) (r : Name) → head_named (map (head_of v) rs) r ≡ option_map (head_of v) (find (λ (q : DeclaredRule). has_name r q.name) rs)
 head_found v [] r = refl
 head_found v (q ∷ rs) r = by (bytes_eq q.name.text r) (head_found v rs r)
   where

@@ -1,4 +1,5 @@
 pub mod Called
+pub mod Chains
 pub mod Definitions
 pub mod Folding
 pub mod Heads

@@ -73,7 +73,7 @@ bound_last [] b x = sym (or_none (own b x))
 bound_last (c ∷ scope) b x = ap (λ (o : Option (Option TermType)). or_bound o (own c x)) (bound_last scope b x) ∙ or_assoc (own b x) (bound_type scope x) (own c x)
 
 -- equal truth values
-both_ways : (a b : Truth) → (a ≡ true → b ≡ true) → (b ≡ true → a ≡ true) → a ≡ b
+pub both_ways : (a b : Truth) → (a ≡ true → b ≡ true) → (b ≡ true → a ≡ true) → a ≡ b
 both_ways true b f g = sym (f refl)
 both_ways false true f g = g refl
 both_ways false false f g = refl

@@ -38,11 +38,11 @@ use Rattle.asm_sound.proofs.Called.{every_left, every_right, IsNamed, HasHead, t
 
 -- ---- lists
 
-or_left : (a b : Truth) → (a || b) ≡ false → a ≡ false
+pub or_left : (a b : Truth) → (a || b) ≡ false → a ≡ false
 or_left true b e = e
 or_left false b e = refl
 
-or_right : (a b : Truth) → (a || b) ≡ false → b ≡ false
+pub or_right : (a b : Truth) → (a || b) ≡ false → b ≡ false
 or_right true b e = absurd (true≢false e)
 or_right false b e = e
 
@@ -103,7 +103,7 @@ enumerated n (y ∷ xs) (suc k) x is = enumerated (n + 1) xs k x is ∙ ap (λ (
 
 -- ---- chains
 
-chain_next : (g : List Node) (k f : ℕ) (cs : List ℕ) → calls_at g f ≡ cs → has_chain g (suc (suc k)) f ≡ false → Every (λ (c : ℕ). has_chain g (suc k) c ≡ false) cs
+pub chain_next : (g : List Node) (k f : ℕ) (cs : List ℕ) → calls_at g f ≡ cs → has_chain g (suc (suc k)) f ≡ false → Every (λ (c : ℕ). has_chain g (suc k) c ≡ false) cs
 unfolding has_chain
 chain_next g k f cs is none = each_fails (has_chain g (suc k)) cs (ap (list_any (has_chain g (suc k))) (sym is) ∙ none)
 

@@ -5,6 +5,7 @@ pub mod Folding
 pub mod Heads
 pub mod Inductions
 pub mod MacroRules
+pub mod Readable
 pub mod RuleForms
 pub mod Scopes
 pub mod TypedRules

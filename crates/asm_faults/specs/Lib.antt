@@ -1,10 +1,13 @@
 pub mod At
 pub mod Bodies
 pub mod Calls
+pub mod Check
 pub mod DomainFaults
 pub mod Files
 pub mod First
 pub mod FunctionFaults
+pub mod Known
 pub mod Missing
 pub mod Model
+pub mod Ranges
 pub mod Terms

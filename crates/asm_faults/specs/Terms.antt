@@ -46,14 +46,14 @@ function_named v text = of_place (function_place v text)
     of_place None = None
     of_place (Some f) = slice_get v.functions f
 
+abbrev pub or_element : Value → Value → Value
+or_element Undef next = next
+or_element element next = element
+
 -- the element of a name, or `undef` where no domain has it
 abbrev pub element_in : List DeclaredDomain → Name → Value
 element_in [] text = Undef
-element_in (d ∷ ds) text = or_next (machine.element_named text d.domain) (element_in ds text)
-  where
-    or_next : Value → Value → Value
-    or_next Undef next = next
-    or_next element next = element
+element_in (d ∷ ds) text = or_element (machine.element_named text d.domain) (element_in ds text)
 
 abbrev pub element_type : Value → Option TermType
 element_type (Elem d k) = Some (ElementOf d)

@@ -1,5 +1,6 @@
 pub mod Called
 pub mod Chains
+pub mod Checking
 pub mod Definitions
 pub mod Folding
 pub mod Heads
@@ -8,5 +9,6 @@ pub mod MacroRules
 pub mod Readable
 pub mod RuleForms
 pub mod Scopes
+pub mod Signature
 pub mod TypedRules
 pub mod TypedTerms

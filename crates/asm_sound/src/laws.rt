@@ -1,8 +1,10 @@
-ghost use Rattle.std.specs.Prelude.{◌≡◌, true};
+//! What the model check makes sure of.
 
-/// Nothing.
-pub fn nothing() -> bool
-    ensures { result ≡ true }
-{
-    true
-}
+ghost use Rattle.asm_sound.specs.Checked.{ChecksAreSound};
+
+/// Where the check finds nothing wrong with the files of a model, the model that they are is well typed, reads and calls
+/// what it may, and defines what it has to. What is said of intervals isn't part of it.
+#[tactic(auto, using(crate::proofs::Checking::checked))]
+pub fn checks_are_sound()
+    ensures { ChecksAreSound }
+{}

@@ -3,4 +3,4 @@
 
 mod laws;
 
-pub use laws::nothing;
+pub use laws::checks_are_sound;

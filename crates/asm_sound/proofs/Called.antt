@@ -1,10 +1,9 @@
 -- What terms and rules call by name, what their trees call by number, and that these names are declared where nothing is wrong.
-use Rattle.std.proofs.Common.{◌≡◌, ℕ, length, List, [], ◌∷◌, ◌++◌, Option, Some, None, refl, sym, ap, subst, ◌∙◌}
+use Rattle.std.proofs.Common.{◌≡◌, ℕ, length, List, [], ◌∷◌, ◌++◌, Option, Some, None, refl, sym, subst}
 use Rattle.std.specs.Prelude.{map}
 use Rattle.std.specs.List.{flat_map}
 use Rattle.asm_io.specs.declared.sources.Place.{Place}
 use Rattle.asm_sign.specs.declared.function.Function.{Function}
-use Rattle.asm_sign.specs.Kind.{is_kept}
 use Rattle.asm_sign.specs.Vocabulary.{Vocabulary}
 use Rattle.asm_node.specs.declared.term_type.TermType.{TermType}
 use Rattle.asm_node.specs.declared.term_type.TermType.TheVariants.{Boolean}
@@ -22,10 +21,10 @@ use Rattle.asm_tree.specs.declared.rule.RawRuleCase.{RawRuleCase, RawRuleCase-F}
 use Rattle.asm_tree.specs.declared.rule.RawRuleKind.{RawRuleKind-F}
 use Rattle.asm_tree.specs.declared.unit.LoadedUnit.{LoadedUnit}
 use Rattle.asm_faults.specs.declared.fault.Fault.{Fault}
-use Rattle.asm_faults.specs.declared.fault.ModelFault.TheVariants.{Unknown, WrongKind}
+use Rattle.asm_faults.specs.declared.fault.ModelFault.TheVariants.{Unknown}
 use Rattle.asm_faults.specs.At.{Name, token}
 use Rattle.asm_faults.specs.DomainFaults.{repeats}
-use Rattle.asm_faults.specs.Terms.{Scope, Judged, judged, or_else, asked, asked_each, alike, case_faults, binder_faults, infinite_faults, within, within_let, let_faults, bind_faults, function_named, arity_faults, call_faults, unary_asks, asks, judge_kind, LetBound}
+use Rattle.asm_faults.specs.Terms.{Scope, Judged, judged, or_else, asked, asked_each, case_faults, binder_faults, infinite_faults, within, within_let, let_faults, bind_faults, function_named, arity_faults, call_faults, unary_asks, asks, judge_kind, LetBound}
 use Rattle.asm_faults.specs.Bodies.{RuleHead, head_named, Faults, rule_call_faults, kind_faults, rule_faults}
 use Rattle.asm_faults.specs.Bodies as bodies
 use Rattle.asm_faults.specs.Calls.{Names, called_kind, called, called_rules_kind, called_rules}

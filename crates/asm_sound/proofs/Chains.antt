@@ -1,7 +1,7 @@
 -- Where no chain of calls is too long, definitions and macro rules end.
-use Rattle.std.proofs.Common.{◌≡◌, ℕ, suc, zero, ◌+◌, ◌<◌, Bool as Truth, true, false, true≢false, not, ◌||◌, cond, List, [], ◌∷◌, ◌++◌, length, Option, Some, None, nat_eq, if◌then◌else◌, slice_get, slice_index_or, refl, sym, ap, subst, ◌∙◌, arith}
+use Rattle.std.proofs.Common.{◌≡◌, ℕ, suc, zero, ◌+◌, Bool as Truth, true, false, true≢false, ◌||◌, cond, List, [], ◌∷◌, ◌++◌, length, Option, Some, None, nat_eq, if◌then◌else◌, slice_get, slice_index_or, refl, sym, ap, subst, ◌∙◌, arith}
 use Rattle.std.specs.Prelude.{map, bytes_eq}
-use Rattle.std.specs.List.{flat_map, find, position, list_any, enumerate_from}
+use Rattle.std.specs.List.{flat_map, find, list_any, enumerate_from}
 use Rattle.std.specs.Option.{unwrap_or, option_map}
 use Rattle.std.proofs.lemmas.Bool.{eqb-true as same_number, eq-eqb as number_same}
 use Rattle.std.proofs.lemmas.Option.{get_or_from_slice_get, slice_get-map}
@@ -10,27 +10,24 @@ use Rattle.asm_sign.specs.declared.function.DeclaredDomain.{DeclaredDomain}
 use Rattle.asm_sign.specs.declared.function.Function.{Function}
 use Rattle.asm_sign.specs.declared.function.FunKind.{FunKind}
 use Rattle.asm_sign.specs.Vocabulary.{Vocabulary}
-use Rattle.asm_node.specs.Machine.{Machine, Definition, Macro, definition_of as definition_among, has_kind}
+use Rattle.asm_node.specs.Machine.{Machine, Definition, definition_of as definition_among, has_kind}
 use Rattle.asm_node.specs.Reads.{may_be_read, may_be_called, DefinitionReadsOnly, MacroCallsOnly}
 use Rattle.asm_node.specs.WellFormed.{any_kind}
-use Rattle.asm_tree.specs.declared.term.RawName.{RawName}
 use Rattle.asm_tree.specs.declared.unit.RawFunction.{RawFunction}
 use Rattle.asm_tree.specs.declared.unit.LoadedUnit.{LoadedUnit}
 use Rattle.call_graph.specs.declared.graph.Node.{Node}
 use Rattle.call_graph.specs.Calls.{no_node, calls_of, is_there, calls_at, has_chain}
 use Rattle.asm_faults.specs.declared.fault.Fault.{Fault}
-use Rattle.asm_faults.specs.declared.fault.ModelFault.{ModelFault}
 use Rattle.asm_faults.specs.declared.fault.ModelFault.TheVariants.{Unknown, WrongKind, CallsTooDeep}
 use Rattle.asm_faults.specs.At.{Name, fault_at}
-use Rattle.asm_faults.specs.DomainFaults.{repeats}
 use Rattle.asm_faults.specs.Files.{Of, to_list, has_name, DeclaredRule, rules, definitions}
-use Rattle.asm_faults.specs.Terms.{Judged, judged, within, function_place, function_named, binder_faults, asked, arity_faults}
-use Rattle.asm_faults.specs.Bodies.{RuleHead, head_of, heads_of, head_named, rule_faults, is_defined_by_term, parameter_faults, function_body_faults, functions_faults, macro_faults}
-use Rattle.asm_faults.specs.Calls.{Names, Thing, called, called_rules, numbers_of, node_of, definition_named, function_node, function_graph, rule_place, rule_node, rule_graph, defined_things, rule_things, faults_where, cycles, deep, or_next, call_faults}
-use Rattle.asm_faults.specs.Model.{function_number, definition_of, macro_of, file_of, machine_in, tree_of}
+use Rattle.asm_faults.specs.Terms.{judged, within, function_place, function_named, binder_faults, asked, arity_faults}
+use Rattle.asm_faults.specs.Bodies.{RuleHead, head_of, heads_of, head_named, rule_faults, parameter_faults, function_body_faults, macro_faults}
+use Rattle.asm_faults.specs.Calls.{Names, Thing, called, called_rules, numbers_of, node_of, definition_named, function_node, function_graph, rule_place, rule_node, rule_graph, defined_things, rule_things, cycles, deep, or_next, call_faults}
+use Rattle.asm_faults.specs.Model.{function_number, definition_of, macro_of, file_of, machine_in}
 use Rattle.asm_node.specs.Types.{domain_type}
 use Rattle.asm_sound.proofs.Inductions.{Every}
-use Rattle.asm_sound.proofs.Scopes.{full, none_left, none_right, holds, fails, both_ways}
+use Rattle.asm_sound.proofs.Scopes.{full, none_left, none_right, fails, both_ways}
 use Rattle.asm_sound.proofs.TypedTerms.{no_some, asked_own}
 use Rattle.asm_sound.proofs.Heads.{none_at, find_place, some_is, head_found}
 use Rattle.asm_sound.proofs.Definitions.{placed_name, place_of_named}

@@ -1,5 +1,5 @@
 -- The checks one with the other.
-use Rattle.std.proofs.Common.{◌≡◌, ℕ, ◌≤◌, Bool as Truth, List, [], ◌∷◌, ◌++◌, length, Some, slice_get, if◌then◌else◌, All}
+use Rattle.std.proofs.Common.{◌≡◌, ℕ, ◌≤◌, List, [], ◌∷◌, ◌++◌, length, Some, slice_get, All}
 use Rattle.std.specs.Prelude.{map}
 use Rattle.std.specs.List.{flat_map}
 use Rattle.asm_sign.specs.Kind.{is_kept}
@@ -129,8 +129,8 @@ module _ (number : Name → ℕ) (units : List LoadedUnit) (numbering : IsNumber
     initial_once = functions_distinct number v units has_initial (initials units) initials_none;
     rules = λ k d lt. (let t = macros_typed number numbering v ready units rules_none k d lt in record { declared = t.declared; typed = t.typed });
     invariants = λ k d lt. record {
-        typed = invariants_typed number numbering v ready units declared (invariants units) invariants_none k d lt;
-        readable = invariants_readable number v units placed known_definitions none.calls declared (invariants units) invariants_none monitored_none k d lt;
-      };
+      typed = invariants_typed number numbering v ready units declared (invariants units) invariants_none k d lt;
+      readable = invariants_readable number v units placed known_definitions none.calls declared (invariants units) invariants_none monitored_none k d lt;
+    };
     main = main_typed number numbering v ready units rules_none;
   }

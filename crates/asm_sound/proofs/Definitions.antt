@@ -1,5 +1,5 @@
 -- Where nothing is wrong with the bodies of files, definitions, initial terms, rules, invariants and the main rule are well typed.
-use Rattle.std.proofs.Common.{◌≡◌, ℕ, suc, zero, ◌<◌, Bool as Truth, true, false, true≢false, not, ◌&&◌, ◌||◌, cond, List, [], ◌∷◌, ◌++◌, length, Option, Some, None, nat_eq, if◌then◌else◌, slice_get, get_or, IsSome, All, refl, sym, ap, subst, ◌∙◌, arith}
+use Rattle.std.proofs.Common.{◌≡◌, ℕ, suc, zero, Bool as Truth, true, false, true≢false, not, ◌&&◌, ◌||◌, cond, List, [], ◌∷◌, ◌++◌, length, Option, Some, None, nat_eq, slice_get, get_or, All, refl, sym, ap, subst, ◌∙◌, arith}
 use Rattle.std.proofs.Math.ListN.{length-map}
 use Rattle.std.specs.Prelude.{map, bytes_eq}
 use Rattle.std.specs.List.{flat_map, list_any}
@@ -7,7 +7,7 @@ use Rattle.std.specs.Option.{unwrap_or, option_map}
 use Rattle.std.proofs.lemmas.Bool.{eqb-true as same_number}
 use Rattle.std.proofs.lemmas.List.Folds.{list_any-append}
 use Rattle.std.proofs.lemmas.List.Quantifiers.{position-Some}
-use Rattle.std.proofs.lemmas.Option.{slice_get_within, slice_get-get_or, slice_get-map}
+use Rattle.std.proofs.lemmas.Option.{slice_get-get_or, slice_get-map}
 use Rattle.std.proofs.lemmas.Slice.Eq.{bytes_eq-Decides}
 use Rattle.asm_domain.specs.Universe.{AreDistinct}
 use Rattle.asm_sign.specs.declared.function.DeclaredDomain.{DeclaredDomain}
@@ -15,33 +15,27 @@ use Rattle.asm_sign.specs.declared.function.Function.{Function}
 use Rattle.asm_sign.specs.declared.function.FunKind.{FunKind}
 use Rattle.asm_sign.specs.Kind.{is_dynamic, is_kept}
 use Rattle.asm_sign.specs.Vocabulary.{Vocabulary}
-use Rattle.asm_node.specs.declared.term.Binder.{Binder}
 use Rattle.asm_node.specs.declared.term_type.TermType.{TermType}
-use Rattle.asm_node.specs.declared.term_type.TermType.TheVariants.{Boolean}
-use Rattle.asm_node.specs.Machine.{Definition, Macro, constant_of}
+use Rattle.asm_node.specs.Machine.{Definition, constant_of}
 use Rattle.asm_node.specs.Values.{is_undef, whole}
-use Rattle.asm_node.specs.RuleTree.{Rule}
-use Rattle.asm_node.specs.Types.{Types, Fits, no_types, domain_type, of_domain, put_type, bound_types, parameter_types, HasType, IsTypedRule}
+use Rattle.asm_node.specs.Types.{Types, no_types, domain_type, of_domain, put_type, bound_types, parameter_types, HasType}
 use Rattle.asm_node.specs.WellFormed.{is_defined}
 use Rattle.asm_tree.specs.declared.term.RawName.{RawName}
 use Rattle.asm_tree.specs.declared.term.RawBinder.{RawBinder}
 use Rattle.asm_tree.specs.declared.unit.RawFunction.{RawFunction}
-use Rattle.asm_tree.specs.declared.unit.RawInvariant.{RawInvariant}
-use Rattle.asm_tree.specs.declared.unit.RawMain.{RawMain}
 use Rattle.asm_tree.specs.declared.unit.LoadedUnit.{LoadedUnit}
 use Rattle.asm_faults.specs.declared.fault.Fault.{Fault}
 use Rattle.asm_faults.specs.declared.fault.ModelFault.TheVariants.{Duplicate, Unknown, WrongKind, WrongArity, WrongType}
 use Rattle.asm_faults.specs.At.{Name, fault_at, token}
 use Rattle.asm_faults.specs.DomainFaults.{is_listed, repeats}
-use Rattle.asm_faults.specs.Files.{Of, DeclaredRule, rules, rule_in, main_in, named_of, all_of, to_list}
+use Rattle.asm_faults.specs.Files.{Of}
 use Rattle.asm_faults.specs.FunctionFaults.{domain_number, number_or_whole, unknown_domain}
-use Rattle.asm_faults.specs.Terms.{Scope, Judged, judged, function_place, function_named, within, binder_faults, asked, arity_faults}
-use Rattle.asm_faults.specs.Bodies.{RuleHead, heads_of, rule_faults, is_defined_by_term, has_initial, of_parameters, parameter_faults, function_body_faults, functions_faults, macro_faults, invariant_faults}
-use Rattle.asm_faults.specs.Model.{IsNumbering, function_number, binders_of, tree_of, rule_of, file_of, definition_of, macro_of, main_rules, first_or_skip}
+use Rattle.asm_faults.specs.Terms.{judged, function_place, function_named, within, binder_faults, asked, arity_faults}
+use Rattle.asm_faults.specs.Bodies.{is_defined_by_term, has_initial, of_parameters, parameter_faults, function_body_faults, functions_faults}
+use Rattle.asm_faults.specs.Model.{IsNumbering, function_number, binders_of, tree_of, definition_of}
 use Rattle.asm_sound.proofs.Scopes.{full, none_left, none_right, holds, fails, Agrees, agrees_within}
 use Rattle.asm_sound.proofs.TypedTerms.{IsReady, no_some, function_found, term_typed, asked_typed}
-use Rattle.asm_sound.proofs.TypedRules.{SoundRule, rule_typed}
-use Rattle.asm_sound.proofs.Heads.{none_at, all_found, some_is, unknown_none, HaveParameters, have_parameters, heads_belong, declared_parameters}
+use Rattle.asm_sound.proofs.Heads.{none_at, all_found, some_is, unknown_none}
 
 -- ---- parameters
 

@@ -1,5 +1,5 @@
 -- Types, faults and trees of terms by their forms.
-use Rattle.std.proofs.Common.{◌≡◌, ℕ, List}
+use Rattle.std.proofs.Common.{◌≡◌, ℕ}
 use Rattle.asm_sign.specs.Vocabulary.{Vocabulary}
 use Rattle.asm_node.specs.Tree.{Tree}
 use Rattle.asm_tree.specs.declared.term.RawTermKind.{RawTermKind-F}

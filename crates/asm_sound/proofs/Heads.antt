@@ -1,5 +1,5 @@
 -- The heads of rules and the macro rules of a model belong together, and what is known of each item of a list.
-use Rattle.std.proofs.Common.{◌≡◌, ℕ, suc, zero, ◌<◌, Bool as Truth, true, false, cond, List, [], ◌∷◌, ◌++◌, length, Option, Some, None, nat_lt, if◌then◌else◌, slice_get, IsSome, All, slice_index_or, refl, sym, ap, subst, ◌∙◌, arith}
+use Rattle.std.proofs.Common.{◌≡◌, ℕ, suc, zero, Bool as Truth, true, false, cond, List, [], ◌∷◌, length, Option, Some, None, if◌then◌else◌, slice_get, IsSome, All, refl, sym, ap, ◌∙◌, arith}
 use Rattle.std.specs.Prelude.{map, bytes_eq}
 use Rattle.std.specs.List.{flat_map, find, position, position_or_len}
 use Rattle.std.specs.Option.{unwrap_or, option_map, is_some}
@@ -8,8 +8,6 @@ use Rattle.std.proofs.lemmas.List.Folds.{find_at}
 use Rattle.std.proofs.lemmas.Option.{slice_get_within, slice_get-map}
 use Rattle.asm_sign.specs.Vocabulary.{Vocabulary}
 use Rattle.asm_node.specs.declared.term.Binder.{Binder}
-use Rattle.asm_node.specs.declared.term_type.TermType.{TermType}
-use Rattle.asm_node.specs.Machine.{Macro}
 use Rattle.asm_node.specs.Types.{domain_type}
 use Rattle.asm_tree.specs.declared.term.RawBinder.{RawBinder}
 use Rattle.asm_tree.specs.declared.unit.LoadedUnit.{LoadedUnit}
@@ -19,7 +17,6 @@ use Rattle.asm_faults.specs.DomainFaults.{repeats}
 use Rattle.asm_faults.specs.Files.{DeclaredRule, has_name, rules}
 use Rattle.asm_faults.specs.FunctionFaults.{unknown_domain}
 use Rattle.asm_faults.specs.Terms.{type_named, binder_faults, within, variables_of}
-use Rattle.asm_faults.specs.Calls.{rule_place}
 use Rattle.asm_faults.specs.Bodies.{RuleHead, head_of, heads_of, head_named, macro_faults, rule_faults}
 use Rattle.asm_faults.specs.Model.{binders_of, macro_of}
 use Rattle.asm_sound.proofs.Inductions.{Every}

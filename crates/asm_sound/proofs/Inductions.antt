@@ -1,5 +1,5 @@
 -- Inductions over terms by their forms, and folds at a form.
-use Rattle.std.proofs.Common.{◌≡◌, ℕ, Bool, List, [], ◌∷◌, refl, sym, ap, subst, ◌∙◌}
+use Rattle.std.proofs.Common.{◌≡◌, ℕ, List, [], ◌∷◌, ap, subst, ◌∙◌}
 use Rattle.std.proofs.Math.Path.{fun_ext}
 use Rattle.std.specs.Prelude.{map}
 use Rattle.asm_tree.specs.declared.term.RawBind.{RawBind, RawBind-F, fold-RawBind, fold_out-RawBind}

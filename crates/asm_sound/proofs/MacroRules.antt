@@ -1,5 +1,5 @@
 -- Where nothing is wrong with the rules and invariants of files, macro rules, the main rule and invariants are well typed.
-use Rattle.std.proofs.Common.{◌≡◌, ℕ, suc, zero, ◌<◌, length, if◌then◌else◌, arith, Bool as Truth, List, [], ◌∷◌, ◌++◌, Option, Some, None, slice_get, IsSome, All, refl, sym, ap, subst, ◌∙◌}
+use Rattle.std.proofs.Common.{◌≡◌, ℕ, suc, zero, if◌then◌else◌, arith, Bool as Truth, List, [], ◌∷◌, ◌++◌, Option, Some, None, slice_get, IsSome, All, refl, sym, ap, subst, ◌∙◌}
 use Rattle.std.specs.Prelude.{map}
 use Rattle.std.specs.List.{flat_map}
 use Rattle.std.specs.Option.{option_map}
@@ -9,7 +9,6 @@ use Rattle.asm_node.specs.declared.term.Binder.{Binder}
 use Rattle.asm_node.specs.declared.term_type.TermType.TheVariants.{Boolean}
 use Rattle.asm_node.specs.Machine.{Macro}
 use Rattle.asm_node.specs.Tree.{Tree}
-use Rattle.asm_node.specs.RuleTree.{Rule}
 use Rattle.asm_node.specs.Types.{Types, no_types, domain_type, of_domain, put_type, bound_types, parameter_types, HasType, IsTypedRule}
 use Rattle.asm_tree.specs.declared.term.RawName.{RawName}
 use Rattle.asm_tree.specs.declared.unit.RawInvariant.{RawInvariant}

@@ -1,6 +1,6 @@
 -- Where no forbidden read is found, definitions, initial terms and invariants read functions of allowed kinds alone.
-use Rattle.std.proofs.Common.{◌≡◌, ℕ, suc, zero, Bool as Truth, true, false, true≢false, not, ◌&&◌, ◌||◌, List, [], ◌∷◌, ◌++◌, Option, Some, None, if◌then◌else◌, slice_get, All, refl, sym, ap, subst, ◌∙◌}
-use Rattle.std.specs.Prelude.{map, codes, bytes_eq}
+use Rattle.std.proofs.Common.{◌≡◌, ℕ, suc, zero, Bool as Truth, true, false, true≢false, not, ◌&&◌, List, [], ◌∷◌, Option, Some, None, if◌then◌else◌, slice_get, All, refl, sym, ap, subst, ◌∙◌}
+use Rattle.std.specs.Prelude.{map, codes}
 use Rattle.std.specs.List.{flat_map, list_any}
 use Rattle.std.specs.Option.{unwrap_or, option_map}
 use Rattle.std.proofs.lemmas.Option.{get_or_from_slice_get, slice_get-map}
@@ -12,7 +12,7 @@ use Rattle.asm_sign.specs.Vocabulary.{Vocabulary}
 use Rattle.asm_node.specs.declared.term_type.TermType.TheVariants.{Boolean}
 use Rattle.asm_node.specs.Machine.{Definition, is_monitored}
 use Rattle.asm_node.specs.Tree.{Tree}
-use Rattle.asm_node.specs.Reads.{may_be_read, ReadsOnly, IsReadable}
+use Rattle.asm_node.specs.Reads.{may_be_read, IsReadable}
 use Rattle.asm_node.specs.WellFormed.{any_kind, is_defined, may_read}
 use Rattle.asm_tree.specs.declared.term.RawName.{RawName}
 use Rattle.asm_tree.specs.declared.term.RawTerm.{RawTerm}
@@ -37,7 +37,7 @@ use Rattle.asm_sound.proofs.TypedTerms.{no_some, asked_own, function_found}
 use Rattle.asm_sound.proofs.Heads.{none_at, all_found, some_is}
 use Rattle.asm_sound.proofs.Definitions.{place_of_named}
 use Rattle.asm_sound.proofs.Called.{IsNamed, term_reads, term_declares}
-use Rattle.asm_sound.proofs.Chains.{or_left, or_right, each_fails, every_zip, of_names, Placed, IsKnownBody, machine, functions_graph, read_within, no_chain, definitions_end}
+use Rattle.asm_sound.proofs.Chains.{or_left, or_right, each_fails, every_zip, of_names, Placed, IsKnownBody, machine, read_within, no_chain, definitions_end}
 
 touch_here : (g : List Node) (marked : List Truth) (n f : ℕ) → touches g marked n f ≡ false → is_in marked f ≡ false
 unfolding touches

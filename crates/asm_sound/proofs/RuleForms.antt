@@ -1,5 +1,5 @@
 -- Inductions over rules by their forms, and faults and trees of rules at a form.
-use Rattle.std.proofs.Common.{◌≡◌, ℕ, List, [], ◌∷◌, ap, subst, ◌∙◌}
+use Rattle.std.proofs.Common.{◌≡◌, ℕ, List, ap, subst, ◌∙◌}
 use Rattle.std.proofs.Math.Path.{fun_ext}
 use Rattle.asm_io.specs.declared.sources.Place.{Place}
 use Rattle.asm_sign.specs.Vocabulary.{Vocabulary}

@@ -1,5 +1,5 @@
 -- Variables that are bound in a scope have the types that the rules on trees give them.
-use Rattle.std.proofs.Common.{◌≡◌, ℕ, ◌<◌, ◌≤◌, Bool as Truth, true, false, true≢false, List, [], ◌∷◌, ◌++◌, length, Option, Some, None, nat_eq, if◌then◌else◌, slice_get, refl, sym, ap, subst, ◌∙◌, arith}
+use Rattle.std.proofs.Common.{◌≡◌, ℕ, Bool as Truth, true, false, List, [], ◌∷◌, ◌++◌, Option, Some, None, nat_eq, if◌then◌else◌, slice_get, refl, sym, ap, subst, ◌∙◌}
 use Rattle.std.specs.Prelude.{bytes_eq}
 use Rattle.std.specs.List.{position, flat_map}
 use Rattle.std.specs.Option.{unwrap_or, option_map}
@@ -8,12 +8,11 @@ use Rattle.std.proofs.lemmas.Slice.Eq.{bytes_eq-Decides}
 use Rattle.std.proofs.lemmas.List.Quantifiers.{position-Some}
 use Rattle.std.proofs.lemmas.Option.{slice_get-get_or}
 use Rattle.asm_sign.specs.declared.function.DeclaredDomain.{DeclaredDomain}
-use Rattle.asm_sign.specs.Vocabulary.{Vocabulary, AreNumbered}
-use Rattle.asm_node.specs.declared.term.Binder.{Binder}
+use Rattle.asm_sign.specs.Vocabulary.{Vocabulary}
 use Rattle.asm_node.specs.declared.term_type.TermType.{TermType}
 use Rattle.asm_node.specs.declared.term_type.TermType.TheVariants.{Integer}
 use Rattle.asm_node.specs.Values.{whole}
-use Rattle.asm_node.specs.Types.{Types, Fits, domain_type, type_of, of_domain, put_type, bound_types}
+use Rattle.asm_node.specs.Types.{Types, domain_type, type_of, of_domain, put_type, bound_types}
 use Rattle.asm_tree.specs.declared.term.RawName.{RawName}
 use Rattle.asm_tree.specs.declared.term.RawBinder.{RawBinder}
 use Rattle.asm_faults.specs.declared.fault.Fault.{Fault}
@@ -21,7 +20,7 @@ use Rattle.asm_faults.specs.declared.fault.ModelFault.TheVariants.{Unknown}
 use Rattle.asm_faults.specs.At.{Name, fault_at}
 use Rattle.asm_faults.specs.DomainFaults.{boolean, integer}
 use Rattle.asm_faults.specs.FunctionFaults.{domain_number, is_domain_named, number_or_whole, unknown_domain}
-use Rattle.asm_faults.specs.Terms.{Bound, Scope, bound_type, or_bound, type_named, within, binder_faults}
+use Rattle.asm_faults.specs.Terms.{Bound, Scope, bound_type, or_bound, type_named, within}
 use Rattle.asm_faults.specs.Model.{IsNumbering, binders_of}
 
 -- ---- lists without items

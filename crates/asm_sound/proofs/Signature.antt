@@ -1,17 +1,15 @@
 -- The signature of a model in whose names, domains and functions nothing is wrong.
-use Rattle.std.proofs.Common.{◌≡◌, ℕ, suc, zero, ◌+◌, ◌<◌, ◌≤◌, Bool as Truth, true, false, true≢false, not, ◌&&◌, ◌||◌, cond, List, [], ◌∷◌, ◌++◌, length, Option, Some, None, nat_lt, if◌then◌else◌, slice_get, append_assoc, refl, sym, ap, subst, ◌∙◌, arith}
+use Rattle.std.proofs.Common.{◌≡◌, ℕ, suc, zero, ◌+◌, ◌≤◌, Bool as Truth, true, false, true≢false, not, ◌&&◌, ◌||◌, cond, List, [], ◌∷◌, ◌++◌, length, Option, Some, None, nat_lt, if◌then◌else◌, slice_get, append_assoc, refl, sym, ap, subst, ◌∙◌, arith}
 use Rattle.std.specs.Prelude.{map, bytes_eq}
-use Rattle.std.specs.List.{flat_map, find, position, position_from, list_any}
-use Rattle.std.specs.Option.{unwrap_or, option_map}
+use Rattle.std.specs.List.{flat_map, find, position_from, list_any}
+use Rattle.std.specs.Option.{option_map}
 use Rattle.std.proofs.lemmas.Iterator.Adapters.{position_from-zero}
 use Rattle.std.proofs.lemmas.Option.{slice_get-map}
 use Rattle.std.proofs.lemmas.Slice.Eq.{bytes_eq-Decides}
-use Rattle.asm_domain.specs.declared.value.Value.TheVariants.{Undef}
 use Rattle.asm_sign.specs.declared.function.DeclaredDomain as sign
 use Rattle.asm_sign.specs.declared.function.Function.{Function}
 use Rattle.asm_sign.specs.Kind.{is_dynamic}
-use Rattle.asm_sign.specs.Vocabulary.{Vocabulary, AreNumbered}
-use Rattle.asm_node.specs.Machine.{Definition, constant_of, definition_of as definition_among}
+use Rattle.asm_sign.specs.Vocabulary.{AreNumbered}
 use Rattle.asm_node.specs.Values.{whole, is_undef}
 use Rattle.asm_node.specs.WellFormed.{IsDefined}
 use Rattle.asm_tree.specs.declared.term.RawName.{RawName}
@@ -24,18 +22,17 @@ use Rattle.asm_faults.specs.declared.fault.Fault.{Fault}
 use Rattle.asm_faults.specs.declared.fault.ModelFault.TheVariants.{Duplicate, NoDefinition, WrongArity}
 use Rattle.asm_faults.specs.At.{Name, fault_at}
 use Rattle.asm_faults.specs.DomainFaults.{boolean, integer, is_listed, repeats, name_faults}
-use Rattle.asm_faults.specs.Files.{Of, numbered, has_name, DeclaredFunction, function_in, functions, definitions, names_in_declaration, names_in_definition, names_in, main_names, named_of, all_of, declared_names}
+use Rattle.asm_faults.specs.Files.{Of, numbered, has_name, DeclaredFunction, function_in, functions, definitions, names_in_declaration, names_in_definition, names_in, main_names, named_of, declared_names}
 use Rattle.asm_faults.specs.FunctionFaults.{number_or_whole, domains_of, function_of, signature_of, truth_values, unknown_domain, infinite_domain, own_faults, location_faults, function_faults, kind_of}
-use Rattle.asm_faults.specs.Terms.{function_place}
 use Rattle.asm_faults.specs.Bodies.{is_defined_by_term}
 use Rattle.asm_faults.specs.Missing.{defined_names, undefined}
 use Rattle.asm_faults.specs.Calls.{definition_named}
 use Rattle.asm_faults.specs.Model.{definition_of}
 use Rattle.asm_sound.proofs.Inductions.{Every}
-use Rattle.asm_sound.proofs.Scopes.{full, none_left, none_right, fails, HasTruths, typed_domain}
+use Rattle.asm_sound.proofs.Scopes.{none_left, none_right, fails, HasTruths, typed_domain}
 use Rattle.asm_sound.proofs.TypedTerms.{Typed, IsReady, no_some}
 use Rattle.asm_sound.proofs.Heads.{none_at, some_is}
-use Rattle.asm_sound.proofs.Definitions.{not_listed, one_place_of}
+use Rattle.asm_sound.proofs.Definitions.{one_place_of}
 use Rattle.asm_sound.proofs.Chains.{Placed, IsKnownBody, machine, definition_at}
 
 -- ---- functions have declared domains
@@ -206,8 +203,10 @@ signature_placed units none k g is =
   where
     test : Function → Truth
     test f = bytes_eq f.name g.name
+
     name_at : (j : ℕ) (h : Function) → slice_get (signature_of units).functions j ≡ Some h → (p : Of RawName) × (slice_get (map name_of (functions units)) j ≡ Some p) × (p.1.text ≡ h.name)
     name_at j h at = (let f = declared_at units j h at in (name_of f.0, slice_get-map name_of (functions units) j ∙ ap (option_map name_of) f.1, ap (λ (z : Function). z.name) f.2))
+
     one : (j : ℕ) (h : Function) → slice_get (signature_of units).functions j ≡ Some h → test h ≡ true → j ≡ k
     one j h at ok =
         (let p = name_at j h at in
@@ -241,7 +240,7 @@ module _ (number : Name → ℕ) (units : List LoadedUnit) (placed : Placed (sig
       let not_listed_there : is_listed (defined_names units) g.name ≡ false = any_map (λ (other : Name). bytes_eq other g.name) (λ (p : Of RawFunction). p.1.name.text) (definitions units) ∙ none_found (λ (p : Of RawFunction). has_name g.name p.1.name) (definitions units) named in
       let same_name : f.0.name.text ≡ g.name = ap (λ (h : Function). h.name) f.2 in
       let wanted : (is_defined_by_term (domains_of units) (function_of (domains_of units) f.0) && not (is_listed (defined_names units) f.0.name.text)) ≡ true =
-          (λ i. needed i && not ((ap (is_listed (defined_names units)) same_name ∙ not_listed_there) i)) in
+      (λ i. needed i && not ((ap (is_listed (defined_names units)) same_name ∙ not_listed_there) i)) in
       true≢false (sym wanted ∙ unlisted)
     where
       no_value : (o : Option (Of RawFunction)) → option_map (definition_of number (signature_of units) units) o ≡ None → o ≡ None

@@ -1,12 +1,10 @@
 -- Where nothing is wrong in a rule, its tree is well typed.
-use Rattle.std.proofs.Common.{◌≡◌, ℕ, suc, Bool as Truth, true, false, cond, List, [], ◌∷◌, ◌++◌, length, Option, Some, None, nat_eq, nat_lt, slice_get, refl, sym, ap, subst, ◌∙◌, arith}
+use Rattle.std.proofs.Common.{◌≡◌, ℕ, cond, List, [], ◌∷◌, ◌++◌, length, Option, Some, None, nat_eq, slice_get, refl, sym, ap, subst, ◌∙◌}
 use Rattle.std.proofs.Math.ListN.{length-map}
-use Rattle.std.specs.Prelude.{map, bytes_eq}
-use Rattle.std.specs.List.{flat_map, find, position, position_or_len}
-use Rattle.std.specs.Option.{unwrap_or, option_map}
-use Rattle.std.proofs.lemmas.Bool.{eqb-true as same_number, lt-ltb}
-use Rattle.std.proofs.lemmas.List.Folds.{find_at}
-use Rattle.std.proofs.lemmas.Option.{slice_get_within, slice_get-map}
+use Rattle.std.specs.Prelude.{map}
+use Rattle.std.specs.List.{flat_map}
+use Rattle.std.specs.Option.{unwrap_or}
+use Rattle.std.proofs.lemmas.Bool.{eqb-true as same_number}
 use Rattle.asm_io.specs.declared.sources.Place.{Place}
 use Rattle.asm_sign.specs.declared.function.Function.{Function}
 use Rattle.asm_sign.specs.Kind.{is_kept}
@@ -18,8 +16,7 @@ use Rattle.asm_node.specs.Machine.{Macro}
 use Rattle.asm_node.specs.Tree.{Tree}
 use Rattle.asm_node.specs.RuleTree as rule
 use Rattle.asm_node.specs.RuleTree.{Rule}
-use Rattle.asm_node.specs.Types.{Types, Fits, domain_type, put_type, bound_types, HasType, HaveDomains, IsTypedRule, AreTypedRules}
-use Rattle.asm_tree.specs.declared.term.RawName.{RawName}
+use Rattle.asm_node.specs.Types.{Types, Fits, domain_type, put_type, bound_types, HasType, IsTypedRule, AreTypedRules}
 use Rattle.asm_tree.specs.declared.term.RawBinder.{RawBinder}
 use Rattle.asm_tree.specs.declared.term.RawBind.{RawBind}
 use Rattle.asm_tree.specs.declared.term.RawTerm.{RawTerm}
@@ -30,7 +27,6 @@ use Rattle.asm_tree.specs.declared.unit.LoadedUnit.{LoadedUnit}
 use Rattle.asm_faults.specs.declared.fault.Fault.{Fault}
 use Rattle.asm_faults.specs.declared.fault.ModelFault.TheVariants.{Unknown, WrongKind, WrongArity}
 use Rattle.asm_faults.specs.At.{Name, token}
-use Rattle.asm_faults.specs.Files.{DeclaredRule, has_name}
 use Rattle.asm_faults.specs.FunctionFaults.{unknown_domain}
 use Rattle.asm_faults.specs.DomainFaults.{repeats}
 use Rattle.asm_faults.specs.Terms.{Scope, Judged, judged, or_else, asked, asked_each, binder_faults, infinite_faults, variables_of, within, within_let, let_faults, bind_faults, function_named, arity_faults, call_faults, LetBound}
@@ -39,7 +35,7 @@ use Rattle.asm_faults.specs.Bodies.{RuleHead, head_named, Faults, update_faults,
 use Rattle.asm_faults.specs.Model.{IsNumbering, function_number, rule_number, place_at, binders_of, trees_of, parts_of, sequence, sequence_of, switch_rule, let_rule, rule_kind, rule_of, tree_of}
 use Rattle.asm_sound.proofs.Inductions.{Every}
 use Rattle.asm_sound.proofs.Scopes.{full, none_left, none_right, holds, Agrees, agrees_more, agrees_within}
-use Rattle.asm_sound.proofs.TypedTerms.{Typed, IsReady, pick, to_first, asked_own, asked_fits, asked_typed, arguments_typed, actuals_typed, function_found, SoundTerm, term_typed, terms_typed}
+use Rattle.asm_sound.proofs.TypedTerms.{Typed, IsReady, pick, to_first, asked_own, asked_fits, asked_typed, arguments_typed, actuals_typed, function_found, term_typed, terms_typed}
 use Rattle.asm_sound.proofs.RuleForms.{RuleForm, RuleParts, rule_at, induct_rules, faults_form, faults_at, rule_form, rule_is}
 
 -- the macro rule of a head: its parameters have domains of the types that the head says

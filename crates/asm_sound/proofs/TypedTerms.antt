@@ -20,24 +20,23 @@ use Rattle.asm_node.specs.Machine.{element_named, same_name}
 use Rattle.asm_node.specs.Tree as tree
 use Rattle.asm_node.specs.Tree.{Tree, Trees}
 use Rattle.asm_node.specs.Values.{whole, same, is_element, is_whole}
-use Rattle.asm_node.specs.Types.{Types, Fits, IsConstant, domain_type, put_type, bound_types, HasType, HaveTypes, HaveDomains, OperatorMakes}
+use Rattle.asm_node.specs.Types.{Types, Fits, IsConstant, domain_type, put_type, bound_types, HasType, HaveDomains, OperatorMakes}
 use Rattle.asm_tree.specs.declared.operator.Op.{Op}
 use Rattle.asm_tree.specs.declared.operator.Op.TheVariants as op
 use Rattle.asm_tree.specs.declared.operator.UnaryOp.{UnaryOp}
 use Rattle.asm_tree.specs.declared.operator.UnaryOp.TheVariants as unary
-use Rattle.asm_tree.specs.declared.term.RawName.{RawName}
 use Rattle.asm_tree.specs.declared.term.RawBinder.{RawBinder}
 use Rattle.asm_tree.specs.declared.term.RawBind.{RawBind}
 use Rattle.asm_tree.specs.declared.term.RawCase.{RawCase}
 use Rattle.asm_tree.specs.declared.term.RawTerm.{RawTerm}
 use Rattle.asm_tree.specs.declared.term.RawTermKind.{RawTermKind-F}
 use Rattle.asm_faults.specs.declared.fault.Fault.{Fault}
-use Rattle.asm_faults.specs.declared.fault.ModelFault.TheVariants.{Unknown, WrongKind, WrongArity, WrongType, Unbound}
+use Rattle.asm_faults.specs.declared.fault.ModelFault.TheVariants.{Unknown, WrongArity, WrongType, Unbound}
 use Rattle.asm_faults.specs.At.{Name, token}
 use Rattle.asm_faults.specs.FunctionFaults.{unknown_domain}
 use Rattle.asm_faults.specs.DomainFaults.{repeats}
 use Rattle.asm_faults.specs.Terms.{Scope, Judged, judged, bound_type, joined, same_type, or_else, first_type, mismatch, asked, asked_each, alike, case_faults, variables_of, binder_faults, infinite_faults, within, within_let, let_faults, bind_faults, variable_faults, element_in, element_type, element_faults, function_place, function_named, call_type, arity_faults, call_faults, unary_gives, unary_asks, gives, asks, judge_kind, LetBound}
-use Rattle.asm_faults.specs.Model.{IsNumbering, function_number, binders_of, op_of, unary_of, trees_of, switch_tree, let_tree, is_case, tree_kind, tree_of}
+use Rattle.asm_faults.specs.Model.{IsNumbering, function_number, binders_of, op_of, unary_of, trees_of, switch_tree, let_tree, tree_kind, tree_of}
 use Rattle.asm_sound.proofs.Inductions.{Every, Form, Parts, at_form, induct}
 use Rattle.asm_sound.proofs.Folding.{judged_form, judged_at, tree_form, tree_at}
 use Rattle.asm_sound.proofs.Scopes.{full, none_left, none_right, holds, Agrees, agrees_more, agrees_within, HasTruths}

@@ -3,7 +3,7 @@ use Rattle.std.proofs.Common.{◌≡◌, ℕ, ◌≤◌, List, [], ◌∷◌, �
 use Rattle.std.specs.Prelude.{map}
 use Rattle.std.specs.List.{flat_map}
 use Rattle.asm_sign.specs.Kind.{is_kept}
-use Rattle.asm_sign.specs.Vocabulary.{Vocabulary, AreNumbered}
+use Rattle.asm_sign.specs.Vocabulary.{Vocabulary}
 use Rattle.asm_node.specs.Machine.{Machine}
 use Rattle.asm_node.specs.Values.{whole}
 use Rattle.asm_node.specs.WellFormed.{is_defined, may_read}
@@ -29,9 +29,9 @@ use Rattle.asm_sound.proofs.Definitions.{functions_typed, functions_distinct, de
 use Rattle.asm_sound.proofs.MacroRules.{macros_typed, main_typed, invariants_typed}
 use Rattle.asm_sound.proofs.Chains.{Placed, IsKnownBody, known_body, definitions_end, rules_end}
 use Rattle.asm_sound.proofs.Readable.{definitions_readable, initials_readable, invariants_readable}
-use Rattle.asm_sound.proofs.Signature.{signature_ready, signature_placed, functions_defined}
+use Rattle.asm_sound.proofs.Signature.{signature_ready, signature_numbered, signature_declared, signature_placed, functions_defined}
 
-module _ (number : Name → ℕ) (units : List LoadedUnit) (numbering : IsNumbering number) (few : length (domains_of units) ≤ whole) (are_numbered : AreNumbered (domains_of units)) (none : AreFaultless units) where
+module _ (number : Name → ℕ) (units : List LoadedUnit) (numbering : IsNumbering number) (few : length (domains_of units) ≤ whole) (none : AreFaultless units) where
   abbrev v : Vocabulary
   v = signature_of units
 
@@ -66,7 +66,7 @@ module _ (number : Name → ℕ) (units : List LoadedUnit) (numbering : IsNumber
   initials_none = none_right of_invariants of_initials last_none
 
   ready : IsReady v
-  ready = signature_ready units few are_numbered none.functions
+  ready = signature_ready units few none.functions
 
   placed : Placed v
   placed = signature_placed units none.names
@@ -120,6 +120,8 @@ module _ (number : Name → ℕ) (units : List LoadedUnit) (numbering : IsNumber
   -- the model that files are is checked, where nothing is wrong with them
   pub checked : IsChecked m
   checked = record {
+    numbered = signature_numbered units;
+    functions = signature_declared units none.functions;
     definitions = definitions_checked;
     defined_once = functions_distinct number v units is_defined_by_term (definitions units) definitions_none;
     defined = functions_defined number units placed known_definitions undefined_none;

@@ -1,15 +1,19 @@
 -- The signature of a model in whose names, domains and functions nothing is wrong.
-use Rattle.std.proofs.Common.{◌≡◌, ℕ, suc, zero, ◌+◌, ◌≤◌, Bool as Truth, true, false, true≢false, not, ◌&&◌, ◌||◌, cond, List, [], ◌∷◌, ◌++◌, length, Option, Some, None, nat_lt, if◌then◌else◌, slice_get, append_assoc, refl, sym, ap, subst, ◌∙◌, arith}
+use Rattle.std.proofs.Common.{◌≡◌, ℕ, suc, zero, ◌+◌, ◌<◌, ◌≤◌, All, Bool as Truth, true, false, true≢false, not, ◌&&◌, ◌||◌, cond, List, [], ◌∷◌, ◌++◌, length, Option, Some, None, nat_lt, if◌then◌else◌, slice_get, append_assoc, refl, sym, ap, subst, ◌∙◌, arith}
 use Rattle.std.specs.Prelude.{map, bytes_eq}
-use Rattle.std.specs.List.{flat_map, find, position_from, list_any}
-use Rattle.std.specs.Option.{option_map}
+use Rattle.std.specs.List.{flat_map, find, position, position_from, list_any, enumerate_from}
+use Rattle.std.specs.Option.{option_map, unwrap_or}
+use Rattle.std.proofs.Math.ListN.{length-map}
+use Rattle.std.proofs.lemmas.Bool.{ltb-false}
+use Rattle.std.proofs.lemmas.List.Quantifiers.{position-Some}
+use Rattle.asm_domain.specs.Universe.{Universe, Truths, Numbers, Named}
 use Rattle.std.proofs.lemmas.Iterator.Adapters.{position_from-zero}
 use Rattle.std.proofs.lemmas.Option.{slice_get-map}
 use Rattle.std.proofs.lemmas.Slice.Eq.{bytes_eq-Decides}
 use Rattle.asm_sign.specs.declared.function.DeclaredDomain as sign
 use Rattle.asm_sign.specs.declared.function.Function.{Function}
 use Rattle.asm_sign.specs.Kind.{is_dynamic}
-use Rattle.asm_sign.specs.Vocabulary.{AreNumbered}
+use Rattle.asm_sign.specs.Vocabulary.{AreNumbered, IsDeclared}
 use Rattle.asm_node.specs.Values.{whole, is_undef}
 use Rattle.asm_node.specs.WellFormed.{IsDefined}
 use Rattle.asm_tree.specs.declared.term.RawName.{RawName}
@@ -19,21 +23,58 @@ use Rattle.asm_tree.specs.declared.unit.RawFunction.{RawFunction}
 use Rattle.asm_tree.specs.declared.unit.RawUnit.{RawUnit}
 use Rattle.asm_tree.specs.declared.unit.LoadedUnit.{LoadedUnit}
 use Rattle.asm_faults.specs.declared.fault.Fault.{Fault}
-use Rattle.asm_faults.specs.declared.fault.ModelFault.TheVariants.{Duplicate, NoDefinition, WrongArity}
+use Rattle.asm_faults.specs.declared.fault.ModelFault.TheVariants.{Duplicate, Unknown, NoDefinition, WrongArity, DomainTooLarge}
 use Rattle.asm_faults.specs.At.{Name, fault_at}
-use Rattle.asm_faults.specs.DomainFaults.{boolean, integer, is_listed, repeats, name_faults}
-use Rattle.asm_faults.specs.Files.{Of, numbered, has_name, DeclaredFunction, function_in, functions, definitions, names_in_declaration, names_in_definition, names_in, main_names, named_of, declared_names}
-use Rattle.asm_faults.specs.FunctionFaults.{number_or_whole, domains_of, function_of, signature_of, truth_values, unknown_domain, infinite_domain, own_faults, location_faults, function_faults, kind_of}
+use Rattle.asm_faults.specs.DomainFaults.{DomainDefinition, numbers_of, definition_of_domain, constants_of, boolean, integer, is_listed, repeats, name_faults}
+use Rattle.asm_faults.specs.Files.{domains as declared_domains, DomainForm, Enumerated, Part, Abstract, DeclaredDomain, Of, numbered, has_name, DeclaredFunction, function_in, functions, definitions, names_in_declaration, names_in_definition, names_in, main_names, named_of, declared_names}
+use Rattle.asm_faults.specs.FunctionFaults.{domain_number, is_domain_named, declared_domain, number_or_whole, domains_of, function_of, signature_of, truth_values, unknown_domain, infinite_domain, own_faults, location_faults, function_faults, kind_of}
 use Rattle.asm_faults.specs.Bodies.{is_defined_by_term}
 use Rattle.asm_faults.specs.Missing.{defined_names, undefined}
 use Rattle.asm_faults.specs.Calls.{definition_named}
 use Rattle.asm_faults.specs.Model.{definition_of}
 use Rattle.asm_sound.proofs.Inductions.{Every}
-use Rattle.asm_sound.proofs.Scopes.{none_left, none_right, fails, HasTruths, typed_domain}
+use Rattle.asm_sound.proofs.Scopes.{full, none_left, none_right, fails, HasTruths, typed_domain}
 use Rattle.asm_sound.proofs.TypedTerms.{Typed, IsReady, no_some}
-use Rattle.asm_sound.proofs.Heads.{none_at, some_is}
+use Rattle.asm_sound.proofs.Heads.{none_at, all_found, some_is}
 use Rattle.asm_sound.proofs.Definitions.{one_place_of}
 use Rattle.asm_sound.proofs.Chains.{Placed, IsKnownBody, machine, definition_at}
+
+-- ---- domains have their places as numbers
+
+abbrev universe_by : List LoadedUnit → ℕ → DeclaredDomain → DomainForm → Universe
+universe_by units number d (Enumerated es) = Named number (map (λ (e : RawName). e.text) es)
+universe_by units number d (Part base) = Numbers (unwrap_or (option_map (λ (x : DomainDefinition). numbers_of x.numerals) (definition_of_domain units d.name.text)) [])
+universe_by units number d Abstract = Named number (constants_of units d.name.text)
+
+number_by : (units : List LoadedUnit) (i : ℕ) (d : DeclaredDomain) (form : DomainForm) (number : ℕ) (names : List Name) → universe_by units i d form ≡ Named number names → number ≡ i
+number_by units i d (Enumerated es) number names e = cc e
+number_by units i d (Part base) number names e = absurd (cc e)
+number_by units i d Abstract number names e = cc e
+
+enumerated_at : {A : Type 0} (n : ℕ) (xs : List A) (k : ℕ) (p : ℕ × A) → slice_get (enumerate_from n xs) k ≡ Some p → p.0 ≡ n + k
+enumerated_at n [] k p is = absurd (no_some p is)
+enumerated_at {A} n (x ∷ xs) zero p is = ap (λ (z : ℕ × A). z.0) (sym (some_is (n, x) p is)) ∙ omega arith
+enumerated_at n (x ∷ xs) (suc k) p is = omega (arith, enumerated_at (n + 1) xs k p is)
+
+-- each enumeration and abstract domain of files has its place as its number
+pub signature_numbered : (units : List LoadedUnit) → AreNumbered (domains_of units)
+signature_numbered units = record { number_is = number_at }
+  where
+    items : List (ℕ × DeclaredDomain)
+    items = enumerate_from 1 (declared_domains units)
+
+    by : (k number : ℕ) (names : List Name) (d : sign.DeclaredDomain) (o : Option (ℕ × DeclaredDomain)) → slice_get items k ≡ o → option_map (declared_domain units) o ≡ Some d → d.domain ≡ Named number names → number ≡ suc k
+    by k number names d None at is named = absurd (no_some d is)
+    by k number names d (Some p) at is named =
+        (let place : p.0 ≡ 1 + k = enumerated_at 1 (declared_domains units) k p at in
+        let own = number_by units p.0 p.1 p.1.form number names (ap (λ (z : sign.DeclaredDomain). z.domain) (some_is (declared_domain units p) d is) ∙ named) in
+        omega (arith, place, own))
+
+    number_at : (k number : ℕ) (names : List Name) (d : sign.DeclaredDomain) → slice_get (domains_of units) k ≡ Some d → d.domain ≡ Named number names → number ≡ k
+    number_at zero number names d is named =
+        (let other : Truths ≡ Named number names = ap (λ (z : sign.DeclaredDomain). z.domain) (some_is truth_values d is) ∙ named in
+        absurd (cc other))
+    number_at (suc k) number names d is named = by k number names d (slice_get items k) refl (sym (slice_get-map (declared_domain units) items k) ∙ is) named
 
 -- ---- functions have declared domains
 
@@ -74,12 +115,60 @@ module _ (units : List LoadedUnit) where
       let own = none_at (own_faults domains) (functions units) k f.0 (none_left (flat_map (own_faults domains) (functions units)) (location_faults domains 0 (functions units)) none) f.1 in
       subst (λ (h : Function). Every (Typed (signature_of units)) h.domains × Typed (signature_of units) h.codomain) f.2 (function_typed f.0 own)
 
+  -- a domain other than the whole numbers has a place
+  below : (n : ℕ) (d : RawName) → unknown_domain domains n d ≡ [] → infinite_domain n d ≡ [] → number_or_whole domains d < length domains
+  below n d known finite = by (domain_number domains d.text) refl
+    where
+      unless_number : Option ℕ → List Fault
+      unless_number None = fault_at Unknown n d ∷ []
+      unless_number (Some k) = []
+
+      placed_below : (k : ℕ) (b c : Truth) → c ≡ false → (if b then Some 0 else (if c then Some whole else position (is_domain_named d.text) domains)) ≡ Some k → k < length domains
+      placed_below k true c no_whole e = (let same : 0 ≡ k = some_is 0 k e in subst (λ (z : ℕ). z < length domains) same (omega arith))
+      placed_below k false true no_whole e = absurd (true≢false no_whole)
+      placed_below k false false no_whole e = (position-Some (is_domain_named d.text) domains k truth_values e).0
+
+      by : (o : Option ℕ) → domain_number domains d.text ≡ o → number_or_whole domains d < length domains
+      by None e = absurd (full (fault_at Unknown n d) [] (sym (ap unless_number e) ∙ known))
+      by (Some k) e =
+          subst (λ (z : ℕ). z < length domains) (sym (ap (λ (o : Option ℕ). unwrap_or o whole) e))
+          (placed_below k (bytes_eq d.text boolean) (bytes_eq d.text integer) (fails (has_name integer d) (fault_at DomainTooLarge n d) finite) e)
+
+  all_below : (n : ℕ) (ds : List RawName) → flat_map (λ (d : RawName). unknown_domain domains n d ++ infinite_domain n d) ds ≡ [] → All (λ (k : ℕ). k < length domains) (map (number_or_whole domains) ds)
+  all_below n [] none k d lt = absurd (omega (arith, lt))
+  all_below n (b ∷ ds) none zero d lt =
+      let own = none_left (unknown_domain domains n b ++ infinite_domain n b) (flat_map (λ (d : RawName). unknown_domain domains n d ++ infinite_domain n d) ds) none in
+      below n b (none_left (unknown_domain domains n b) (infinite_domain n b) own) (none_right (unknown_domain domains n b) (infinite_domain n b) own)
+  all_below n (b ∷ ds) none (suc k) d lt = all_below n ds (none_right (unknown_domain domains n b ++ infinite_domain n b) (flat_map (λ (d : RawName). unknown_domain domains n d ++ infinite_domain n d) ds) none) k d (omega (arith, lt))
+
+  function_declared : (f : DeclaredFunction) → own_faults domains f ≡ [] → IsDeclared domains (function_of domains f)
+  function_declared f none =
+      let arguments : List Fault = flat_map (λ (d : RawName). unknown_domain domains f.unit d ++ infinite_domain f.unit d) f.domains in
+      let codomain : List Fault = unknown_domain domains f.unit f.codomain in
+      let infinite : List Fault = if is_dynamic (kind_of f.kind) then infinite_domain f.unit f.codomain else [] in
+      let arity : List Fault = if nat_lt 4 (length f.domains) then fault_at WrongArity f.unit f.name ∷ [] else [] in
+      let rest = none_right arguments (codomain ++ (infinite ++ arity)) none in
+      let last = none_right codomain (infinite ++ arity) rest in
+      let few : length f.domains ≤ 4 = ltb-false 4 (length f.domains) (fails (nat_lt 4 (length f.domains)) (fault_at WrongArity f.unit f.name) (none_right infinite arity last)) in
+      record {
+        few = omega (arith, few, length-map f.domains (number_or_whole domains));
+        declared = all_below f.unit f.domains (none_left arguments (codomain ++ (infinite ++ arity)) none);
+        codomain = λ dynamic. below f.unit f.codomain (none_left codomain (infinite ++ arity) rest) (sym (ap (λ (b : Truth). if b then infinite_domain f.unit f.codomain else []) dynamic) ∙ none_left infinite arity last);
+      }
+
+  -- where nothing is wrong with functions, those of the signature are declared as it asks
+  pub signature_declared : function_faults units ≡ [] → All (IsDeclared domains) (signature_of units).functions
+  signature_declared none =
+      all_found (IsDeclared domains) (signature_of units).functions
+      (λ k g is. (let f = declared_at k g is in
+      subst (IsDeclared domains) f.2 (function_declared f.0 (none_at (own_faults domains) (functions units) k f.0 (none_left (flat_map (own_faults domains) (functions units)) (location_faults domains 0 (functions units)) none) f.1))))
+
   -- where nothing is wrong with functions, their domains are declared
-  pub signature_ready : length domains ≤ whole → AreNumbered domains → function_faults units ≡ [] → IsReady (signature_of units)
-  signature_ready few are_numbered none = record {
+  pub signature_ready : length domains ≤ whole → function_faults units ≡ [] → IsReady (signature_of units)
+  signature_ready few none = record {
     truths = truths_of units;
     few = few;
-    numbered = are_numbered;
+    numbered = signature_numbered units;
     arguments = λ k g is. (all_typed none k g is).0;
     results = λ k g is. (all_typed none k g is).1;
   }

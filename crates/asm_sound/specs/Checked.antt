@@ -4,7 +4,7 @@ use Rattle.asm_domain.specs.Universe.{AreDistinct}
 use Rattle.asm_sign.specs.declared.function.Function.{Function}
 use Rattle.asm_sign.specs.declared.function.FunKind.{FunKind}
 use Rattle.asm_sign.specs.Kind.{is_kept}
-use Rattle.asm_sign.specs.Vocabulary.{AreNumbered}
+use Rattle.asm_sign.specs.Vocabulary.{AreNumbered, IsDeclared}
 use Rattle.asm_node.specs.declared.term_type.TermType.{TermType}
 use Rattle.asm_node.specs.declared.term_type.TermType.TheVariants.{Boolean}
 use Rattle.asm_node.specs.Machine.{Machine, Definition, Macro, is_monitored}
@@ -54,6 +54,9 @@ pub record IsCheckedInvariant (m : Machine) (t : Tree) : Type 0 where
   pub readable : IsReadable m (λ kind. not (is_monitored kind)) t
 
 pub record IsChecked (m : Machine) : Type 0 where
+  -- domains are numbered, and those of functions are declared
+  pub numbered : AreNumbered m.signature.domains
+  pub functions : All (IsDeclared m.signature.domains) m.signature.functions
   -- each static or derived function has one definition
   pub definitions : All (IsCheckedDefinition m is_defined may_read) m.definitions
   pub defined_once : AreDistinct (map (λ d. d.function) m.definitions)
@@ -68,8 +71,8 @@ pub record IsChecked (m : Machine) : Type 0 where
   pub invariants : All (IsCheckedInvariant m) m.invariants
   pub main : IsTypedRule m.signature m.rules no_types m.main
 
--- where the check finds nothing wrong, the model that the files are is checked, whatever numbers its variables have; its
--- domains have to be few and numbered, as those of a signature are
+-- where the check finds nothing wrong, the model that the files are is checked, whatever numbers its variables have; the
+-- number that stands for the whole numbers has to be no domain's
 abbrev pub ChecksAreSound : Type 0
 ChecksAreSound =
-    (number : Name → ℕ) (units : List LoadedUnit) → IsNumbering number → length (domains_of units) ≤ whole → AreNumbered (domains_of units) → AreFaultless units → IsChecked (machine_of number units)
+    (number : Name → ℕ) (units : List LoadedUnit) → IsNumbering number → length (domains_of units) ≤ whole → AreFaultless units → IsChecked (machine_of number units)

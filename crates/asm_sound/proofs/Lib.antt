@@ -6,6 +6,7 @@ pub mod Folding
 pub mod Heads
 pub mod Inductions
 pub mod MacroRules
+pub mod NoFault
 pub mod Readable
 pub mod RuleForms
 pub mod Scopes

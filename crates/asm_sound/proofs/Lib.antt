@@ -3,6 +3,7 @@ pub mod Chains
 pub mod Checking
 pub mod Definitions
 pub mod Folding
+pub mod Forming
 pub mod Heads
 pub mod Inductions
 pub mod MacroRules

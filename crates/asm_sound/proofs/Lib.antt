@@ -1,0 +1,16 @@
+pub mod Called
+pub mod Chains
+pub mod Checking
+pub mod Definitions
+pub mod Folding
+pub mod Forming
+pub mod Heads
+pub mod Inductions
+pub mod MacroRules
+pub mod NoFault
+pub mod Readable
+pub mod RuleForms
+pub mod Scopes
+pub mod Signature
+pub mod TypedRules
+pub mod TypedTerms

@@ -46,7 +46,7 @@ agrees_none number y = refl
 abbrev unless_same : ℕ → ℕ → RawName → Option ℕ → List Fault
 unless_same d n name o = of_parameters o d n name
 
-parameter_domain : (domains : List DeclaredDomain) (b : RawBinder) (d n : ℕ) → unknown_domain domains n b.domain ≡ [] → of_parameters (domain_number domains b.domain.text) d n b.domain ≡ [] → d ≡ number_or_whole domains b.domain
+pub parameter_domain : (domains : List DeclaredDomain) (b : RawBinder) (d n : ℕ) → unknown_domain domains n b.domain ≡ [] → of_parameters (domain_number domains b.domain.text) d n b.domain ≡ [] → d ≡ number_or_whole domains b.domain
 parameter_domain domains b d n known none = by (domain_number domains b.domain.text) refl
   where
     unless_number : Option ℕ → List Fault

@@ -8,9 +8,11 @@ pub mod Heads
 pub mod Inductions
 pub mod MacroRules
 pub mod NoFault
+pub mod RangedScopes
 pub mod Readable
 pub mod RuleForms
 pub mod Scopes
 pub mod Signature
+pub mod Spreads
 pub mod TypedRules
 pub mod TypedTerms

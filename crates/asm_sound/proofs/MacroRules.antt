@@ -38,7 +38,7 @@ parameters_of : (v : Vocabulary) (ps : List Binder) → bound_types v.domains ps
 parameters_of v [] = refl
 parameters_of v (p ∷ ps) = ap (put_type p.variable (of_domain v.domains p.domain)) (parameters_of v ps)
 
-flat_map-append : {A B : Type 0} (f : A → List B) (xs ys : List A) → flat_map f (xs ++ ys) ≡ [] → flat_map f ys ≡ []
+pub flat_map-append : {A B : Type 0} (f : A → List B) (xs ys : List A) → flat_map f (xs ++ ys) ≡ [] → flat_map f ys ≡ []
 flat_map-append f [] ys none = none
 flat_map-append f (x ∷ xs) ys none = flat_map-append f xs ys (none_right (f x) (flat_map f (xs ++ ys)) none)
 

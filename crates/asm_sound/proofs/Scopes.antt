@@ -78,7 +78,7 @@ both_ways false true f g = g refl
 both_ways false false f g = refl
 
 module _ (number : Name → ℕ) (numbering : IsNumbering number) where
-  same_names : (x y : Name) → nat_eq (number x) (number y) ≡ bytes_eq x y
+  pub same_names : (x y : Name) → nat_eq (number x) (number y) ≡ bytes_eq x y
   same_names x y =
       both_ways (nat_eq (number x) (number y)) (bytes_eq x y)
       (λ e. (bytes_eq-Decides x y).1 (numbering.apart x y (same_number (number x) (number y) e)))

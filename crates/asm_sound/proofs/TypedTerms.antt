@@ -147,7 +147,7 @@ found_in : (ds : List DeclaredDomain) (e : Name) (d k : ℕ) → element_in ds e
 found_in [] e d k q = absurd (cc q)
 found_in (x ∷ ds) e d k q = found_here x ds e d k (found_in ds e d k) x.domain refl q
 
-below_whole : (d : ℕ) → (d ≡ whole → ⊥) → nat_eq d whole ≡ false
+pub below_whole : (d : ℕ) → (d ≡ whole → ⊥) → nat_eq d whole ≡ false
 below_whole d f = by (nat_eq d whole) refl
   where
     by : (b : Truth) → nat_eq d whole ≡ b → nat_eq d whole ≡ false

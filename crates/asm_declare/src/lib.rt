@@ -1,9 +1,15 @@
-//! What is wrong with the names, the domains and the functions that files declare, and the signature that they make where
-//! nothing is.
+//! What is wrong with the names and the domains that files declare.
 #![tactic(auto)]
 
+mod defining;
 mod enter;
+mod measure;
+mod measuring;
 mod naming;
+mod passes;
 mod standing;
+mod tables;
+mod targets;
 
 pub use naming::names;
+pub use passes::domains;

@@ -1,6 +1,6 @@
 //! The domains that are always there.
 ghost use Rattle.std.specs.Prelude.{◌≡◌, [], ◌∷◌, IfOk};
-ghost use Rattle.asm_faults.specs.DomainFaults.{boolean, integer};
+ghost use Rattle.asm_faults.specs.DomainFaults.{boolean, integer, is_listed};
 
 use asm_list::Name;
 use name_table::Table;
@@ -16,4 +16,11 @@ pub fn standing(alloc: Global) -> Result<Table, AllocError>
     names.add(&boolean)?;
     names.add(&integer)?;
     Ok(names)
+}
+
+/// Whether a name is that of one.
+pub fn is_standing(name: &Name) -> bool
+    ensures { result ≡ is_listed (boolean ∷ integer ∷ []) name.now }
+{
+    "Boolean" == name.text() || "Integer" == name.text()
 }

@@ -1,12 +1,12 @@
 -- The rules that a rule calls, by its variants, as what stands behind other numbers.
-use Rattle.std.proofs.Common.{◌≡◌, ℕ, ◌+◌, ◌<◌, List, [], ◌∷◌, ◌++◌, length, drop, get_or, refl, ap, sym, ◌∙◌, append-nil}
+use Rattle.std.proofs.Common.{◌≡◌, ℕ, ◌+◌, ◌<◌, List, [], ◌++◌, length, drop, get_or, refl, ap, sym, ◌∙◌, append-nil}
 use Rattle.std.specs.Prelude.{map}
 use Rattle.std.specs.List.{flat_map}
 use Rattle.asm_tree.specs.declared.term.RawBinder.{RawBinder}
 use Rattle.asm_tree.specs.declared.term.RawBind.{RawBind}
 use Rattle.asm_tree.specs.declared.term.RawTerm.{RawTerm}
 use Rattle.asm_tree.specs.declared.rule.RawRule.{RawRule, fold_out-RawRule}
-use Rattle.asm_tree.specs.declared.rule.RawRuleKind.{RawRuleKind, fold-roll-RawRuleKind}
+use Rattle.asm_tree.specs.declared.rule.RawRuleKind.{fold-roll-RawRuleKind}
 use Rattle.asm_tree.specs.declared.rule.RawRuleKind.TheVariants as rule_kind
 use Rattle.asm_tree.specs.declared.rule.RawRuleKind.TheOpen.{RawRuleKind-F}
 use Rattle.asm_tree.specs.declared.rule.RawRuleCase.{RawRuleCase, fold_out-RawRuleCase}

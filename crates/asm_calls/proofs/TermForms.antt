@@ -1,5 +1,5 @@
 -- The functions that a term reads, by its variants, as what stands behind other numbers.
-use Rattle.std.proofs.Common.{◌≡◌, ℕ, ◌+◌, ◌<◌, Bool as Truth, List, [], ◌∷◌, ◌++◌, length, drop, get_or, refl, ap, sym, ◌∙◌, append_assoc, append-nil}
+use Rattle.std.proofs.Common.{◌≡◌, ℕ, ◌+◌, ◌<◌, Bool as Truth, List, [], ◌++◌, length, drop, get_or, refl, ap, sym, ◌∙◌, append_assoc, append-nil}
 use Rattle.std.specs.Prelude.{map}
 use Rattle.std.specs.List.{flat_map}
 use Rattle.asm_sign.specs.Vocabulary.{Vocabulary}
@@ -8,7 +8,7 @@ use Rattle.asm_tree.specs.declared.operator.UnaryOp.{UnaryOp}
 use Rattle.asm_tree.specs.declared.operator.Quantifier.{Quantifier}
 use Rattle.asm_tree.specs.declared.term.RawBinder.{RawBinder}
 use Rattle.asm_tree.specs.declared.term.RawTerm.{RawTerm, fold_out-RawTerm}
-use Rattle.asm_tree.specs.declared.term.RawTermKind.{RawTermKind, fold-roll-RawTermKind}
+use Rattle.asm_tree.specs.declared.term.RawTermKind.{fold-roll-RawTermKind}
 use Rattle.asm_tree.specs.declared.term.RawTermKind.TheVariants as term_kind
 use Rattle.asm_tree.specs.declared.term.RawTermKind.TheOpen.{RawTermKind-F}
 use Rattle.asm_tree.specs.declared.term.RawCase.{RawCase, fold_out-RawCase}

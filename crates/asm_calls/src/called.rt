@@ -118,11 +118,7 @@ pub fn called_rules(
 
 #[cycle(rule)]
 #[tactic(auto, using(crate::proofs::RuleForms::forms))]
-fn rule_kind(
-    rules: &Table,
-    kind: &RawRuleKind,
-    calls: &mut Listed<u32>,
-) -> Result<(), AllocError>
+fn rule_kind(rules: &Table, kind: &RawRuleKind, calls: &mut Listed<u32>) -> Result<(), AllocError>
     ensures { OnOk result (calls.new ≡ calls.old ++ rules_of_kind rules.now kind.now) }
 {
     match kind {
@@ -150,11 +146,7 @@ fn rule_kind(
 
 #[cycle(rule)]
 #[tactic(auto, using(crate::proofs::RuleForms::steps))]
-fn each_rule(
-    rules: &Table,
-    items: &[RawRule],
-    calls: &mut Listed<u32>,
-) -> Result<(), AllocError>
+fn each_rule(rules: &Table, items: &[RawRule], calls: &mut Listed<u32>) -> Result<(), AllocError>
     ensures { OnOk result (calls.new ≡ calls.old ++ flat_map (rules_in rules.now) items.now) }
 {
     'items: for item in items {

@@ -9,6 +9,7 @@ pub mod Inductions
 pub mod MacroRules
 pub mod NoFault
 pub mod RangedScopes
+pub mod RangedTerms
 pub mod Readable
 pub mod RuleForms
 pub mod Scopes

@@ -8,6 +8,7 @@ pub mod Heads
 pub mod Inductions
 pub mod MacroRules
 pub mod NoFault
+pub mod RangedModel
 pub mod RangedRules
 pub mod RangedScopes
 pub mod RangedTerms

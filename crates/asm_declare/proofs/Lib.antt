@@ -1,0 +1,5 @@
+pub mod Counting
+pub mod Entering
+pub mod Sizing
+pub mod Targeting
+pub mod Walks

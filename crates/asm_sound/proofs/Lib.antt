@@ -8,7 +8,10 @@ pub mod Heads
 pub mod Inductions
 pub mod MacroRules
 pub mod NoFault
+pub mod RangedModel
+pub mod RangedRules
 pub mod RangedScopes
+pub mod RangedTerms
 pub mod Readable
 pub mod RuleForms
 pub mod Scopes

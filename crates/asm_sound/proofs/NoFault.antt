@@ -21,8 +21,13 @@ first_none faults later none = by (noted None faults) refl none
     by None e is = (none_at_all faults e, is)
     by (Some a) e is = absurd (no_some a (sym is))
 
-pub faultless : (units : List LoadedUnit) → model_fault units ≡ None → AreFaultless units
-faultless units none =
+-- none of the passes finds anything wrong
+record AreAllNone (units : List LoadedUnit) : Type 0 where
+  faultless : AreFaultless units
+  unrefused : range_faults (signature_of units) units ≡ []
+
+all_none : (units : List LoadedUnit) → model_fault units ≡ None → AreAllNone units
+all_none units none =
     let calls : List Fault = call_faults (signature_of units) units in
     let reads : List Fault = read_faults (signature_of units) units in
     let ranges : List Fault = range_faults (signature_of units) units in
@@ -34,4 +39,15 @@ faultless units none =
     let of_missing = first_none (missing_faults units) (first_fault (calls ∷ reads ∷ ranges ∷ [])) of_bodies.1 in
     let of_calls = first_none calls (first_fault (reads ∷ ranges ∷ [])) of_missing.1 in
     let of_reads = first_none reads (first_fault (ranges ∷ [])) of_calls.1 in
-    record { names = of_names.0; functions = of_functions.0; bodies = of_bodies.0; missing = of_missing.0; calls = of_calls.0; reads = of_reads.0 }
+    let of_ranges = first_none ranges (first_fault []) of_reads.1 in
+    record {
+      faultless = record { names = of_names.0; functions = of_functions.0; bodies = of_bodies.0; missing = of_missing.0; calls = of_calls.0; reads = of_reads.0 };
+      unrefused = of_ranges.0;
+    }
+
+pub faultless : (units : List LoadedUnit) → model_fault units ≡ None → AreFaultless units
+faultless units none = (all_none units none).faultless
+
+-- and none refuses an interval
+pub unrefused : (units : List LoadedUnit) → model_fault units ≡ None → range_faults (signature_of units) units ≡ []
+unrefused units none = (all_none units none).unrefused

@@ -1,5 +1,5 @@
 -- The ranges of domains, and those of the variables that are bound in a scope.
-use Rattle.std.proofs.Common.{◌≡◌, ℕ, ◌^◌, ◌<◌, ◌≤◌, ◌⊎◌, inl, inr, length, ℤ, pos, negsuc, neg_ℤ, ◌≤ℤ◌, unsigned_abs, Bool as Truth, true, false, true≢false, ◌||◌, nat_eq, if◌then◌else◌, List, [], ◌∷◌, ◌++◌, Option, Some, None, slice_get, refl, sym, ap, subst, ◌∙◌, arith}
+use Rattle.std.proofs.Common.{◌≡◌, ℕ, zero, suc, ◌^◌, ◌<◌, ◌≤◌, ◌⊎◌, inl, inr, length, ℤ, pos, negsuc, neg_ℤ, ◌≤ℤ◌, unsigned_abs, Bool as Truth, true, false, true≢false, ◌||◌, nat_eq, if◌then◌else◌, List, [], ◌∷◌, ◌++◌, Option, Some, None, slice_get, refl, sym, ap, subst, ◌∙◌, arith}
 use Rattle.std.specs.Prelude.{map, nat_le, bytes_eq}
 use Rattle.std.specs.Int.{int_min, int_max}
 use Rattle.std.specs.Int.Signed.{≤ℤ_refl}
@@ -77,11 +77,11 @@ Listed xs z = list_any (λ (w : Value). same w (Int z)) (map Int xs) ≡ true
 
 member : (xs : List ℤ) (z : ℤ) → Listed xs z → Member xs z
 member [] z e = absurd (true≢false (sym e))
-member (x ∷ xs) z e = by (int_eq x z) refl e
+member (x ∷ xs) z e = by (int_eq x z) refl e (λ f. member xs z f)
   where
-    by : (b : Truth) → int_eq x z ≡ b → (b || list_any (λ (w : Value). same w (Int z)) (map Int xs)) ≡ true → Member (x ∷ xs) z
-    by true is f = inl ((Decides-int_eq x z).0 is)
-    by false is f = inr (member xs z f)
+    by : (b : Truth) → int_eq x z ≡ b → (b || list_any (λ (w : Value). same w (Int z)) (map Int xs)) ≡ true → (Listed xs z → Member xs z) → Member (x ∷ xs) z
+    by true is f later = inl ((Decides-int_eq x z).0 is)
+    by false is f later = inr (later f)
 
 listed : (xs : List ℤ) (z : ℤ) → Member xs z → Listed xs z
 listed [] z is = absurd is

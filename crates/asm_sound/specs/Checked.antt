@@ -1,5 +1,5 @@
--- What holds of a model in whose files nothing is wrong, but for its intervals.
-use Rattle.std.specs.Prelude.{◌≡◌, ◌≤◌, ℕ, Bool as Truth, true, not, List, [], length, map, Some, slice_get, All, IsSome}
+-- What holds of a model in whose files nothing is wrong.
+use Rattle.std.specs.Prelude.{◌≡◌, ◌≤◌, ℕ, Bool as Truth, true, not, List, [], length, map, Some, None, slice_get, All, IsSome}
 use Rattle.asm_domain.specs.Universe.{AreDistinct}
 use Rattle.asm_sign.specs.declared.function.Function.{Function}
 use Rattle.asm_sign.specs.declared.function.FunKind.{FunKind}
@@ -12,7 +12,7 @@ use Rattle.asm_node.specs.Reads.{may_be_read, may_be_called, IsReadable}
 use Rattle.asm_node.specs.Tree.{Tree}
 use Rattle.asm_node.specs.Types.{domain_type, no_types, parameter_types, HasType, IsTypedRule}
 use Rattle.asm_node.specs.Values.{whole}
-use Rattle.asm_node.specs.WellFormed.{any_kind, is_defined, may_read, IsDefined}
+use Rattle.asm_node.specs.WellFormed.{any_kind, is_defined, may_read, IsDefined, IsWellFormed}
 use Rattle.asm_tree.specs.declared.unit.LoadedUnit.{LoadedUnit}
 use Rattle.asm_faults.specs.At.{Name}
 use Rattle.asm_faults.specs.DomainFaults.{name_faults}
@@ -20,6 +20,7 @@ use Rattle.asm_faults.specs.FunctionFaults.{domains_of, signature_of, function_f
 use Rattle.asm_faults.specs.Bodies.{body_faults}
 use Rattle.asm_faults.specs.Missing.{missing_faults}
 use Rattle.asm_faults.specs.Calls.{call_faults, read_faults}
+use Rattle.asm_faults.specs.Check.{model_fault}
 use Rattle.asm_faults.specs.Model.{IsNumbering, machine_of}
 
 -- the passes over names, functions, bodies, what is missing, calls and reads find nothing wrong
@@ -76,3 +77,8 @@ pub record IsChecked (m : Machine) : Type 0 where
 abbrev pub ChecksAreSound : Type 0
 ChecksAreSound =
     (number : Name → ℕ) (units : List LoadedUnit) → IsNumbering number → length (domains_of units) ≤ whole → AreFaultless units → IsChecked (machine_of number units)
+
+-- where the check has no fault, the model is well formed, intervals and all
+abbrev pub CheckedIsWellFormed : Type 0
+CheckedIsWellFormed =
+    (number : Name → ℕ) (units : List LoadedUnit) → IsNumbering number → length (domains_of units) ≤ whole → model_fault units ≡ None → IsWellFormed (machine_of number units)

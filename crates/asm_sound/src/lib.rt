@@ -3,4 +3,4 @@
 
 mod laws;
 
-pub use laws::checks_are_sound;
+pub use laws::{checked_is_well_formed, checks_are_sound};

@@ -1,12 +1,10 @@
 -- What is judged of a term, by its variants.
-use Rattle.std.proofs.Common.{◌≡◌, ℕ, Bool as Truth, List, [], ◌∷◌, ◌++◌, Option, Some, None, refl, ap, sym, ◌∙◌}
+use Rattle.std.proofs.Common.{◌≡◌, ℕ, Bool as Truth, List, [], ◌∷◌, refl, ap, sym, ◌∙◌}
 use Rattle.std.specs.Prelude.{map}
 use Rattle.asm_sign.specs.Vocabulary.{Vocabulary}
-use Rattle.asm_node.specs.declared.term_type.TermType.{TermType}
 use Rattle.asm_tree.specs.declared.operator.Op.{Op}
 use Rattle.asm_tree.specs.declared.operator.UnaryOp.{UnaryOp}
 use Rattle.asm_tree.specs.declared.operator.Quantifier.{Quantifier}
-use Rattle.asm_tree.specs.declared.term.RawName.{RawName}
 use Rattle.asm_tree.specs.declared.term.RawBinder.{RawBinder}
 use Rattle.asm_tree.specs.declared.term.RawTerm.{RawTerm, fold_out-RawTerm}
 use Rattle.asm_tree.specs.declared.term.RawTermKind.{RawTermKind, fold-RawTermKind, fold-roll-RawTermKind, fold_out-RawTermKind}

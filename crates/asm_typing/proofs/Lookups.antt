@@ -1,7 +1,7 @@
 -- Names that are found in tables.
-use Rattle.std.proofs.Common.{◌≡◌, ℕ, zero, suc, ◌+◌, ◌<◌, Bool as Truth, true, false, ◌&&◌, cond, nat_eq, List, [], ◌∷◌, ◌++◌, length, slice_get, Option, Some, None, refl, sym, ap, ◌∙◌, arith, length-append}
+use Rattle.std.proofs.Common.{◌≡◌, ℕ, suc, ◌+◌, Bool as Truth, true, false, ◌&&◌, cond, nat_eq, List, [], ◌∷◌, ◌++◌, length, slice_get, Option, Some, None, refl, sym, ap, ◌∙◌, arith, length-append}
 use Rattle.std.specs.Prelude.{map, bytes_eq, is_some}
-use Rattle.std.specs.List.{position, position_from, list_any, flat_map}
+use Rattle.std.specs.List.{position, position_from, list_any}
 use Rattle.std.specs.Option.{option_map, unwrap_or}
 use Rattle.std.proofs.lemmas.Bool.Decides.{nat_tests}
 use Rattle.std.proofs.lemmas.Iterator.Adapters.{position_from-zero}
@@ -18,7 +18,7 @@ use Rattle.asm_node.specs.Types.{type_of}
 use Rattle.asm_faults.specs.At.{Name}
 use Rattle.asm_faults.specs.DomainFaults.{boolean, is_listed}
 use Rattle.asm_faults.specs.FunctionFaults.{is_domain_named}
-use Rattle.asm_faults.specs.Terms.{function_place, function_named, element_in, element_type, or_else}
+use Rattle.asm_faults.specs.Terms.{function_place, function_named, element_in, element_type}
 use Rattle.asm_faults.specs.Bodies.{RuleHead, head_named}
 use Rattle.name_table.specs.Numbered.{number_of}
 use Rattle.asm_typing.specs.Tables.{domain_names, function_names, element_names, element_types, names_in, types_in}

@@ -1,8 +1,8 @@
 -- Variables that are bound.
-use Rattle.std.proofs.Common.{◌≡◌, ℕ, suc, ◌+◌, ◌<◌, Bool as Truth, true, false, List, [], ◌∷◌, ◌++◌, length, drop, get_or, Option, Some, None, refl, ap, sym, ◌∙◌, drop-cons, add-one, if◌then◌else◌}
+use Rattle.std.proofs.Common.{◌≡◌, ℕ, suc, ◌+◌, ◌<◌, Bool as Truth, true, false, List, length, drop, get_or, Option, Some, None, refl, ap, ◌∙◌, drop-cons, add-one, if◌then◌else◌}
 use Rattle.std.specs.Prelude.{map, bytes_eq}
 use Rattle.asm_node.specs.declared.term_type.TermType.{TermType}
-use Rattle.asm_faults.specs.Terms.{Bound, Scope, or_bound, bound_type}
+use Rattle.asm_faults.specs.Terms.{Scope, or_bound, bound_type}
 use Rattle.asm_typing.specs.Bound.{bound_of}
 use Rattle.asm_typing.specs.declared.scope.Variable.{Variable}
 

@@ -1,5 +1,5 @@
 -- Faults that are noted item by item.
-use Rattle.std.proofs.Common.{◌≡◌, ℕ, zero, suc, ◌+◌, ◌-◌, ◌<◌, ◌≤◌, Bool as Truth, true, false, List, [], ◌∷◌, ◌++◌, length, drop, take, get_or, slice_get, Option, Some, None, refl, ap, sym, ◌∙◌, drop-cons, add-one, append_assoc, append-nil, arith, if◌then◌else◌}
+use Rattle.std.proofs.Common.{◌≡◌, ℕ, zero, suc, ◌+◌, ◌<◌, Bool as Truth, true, false, List, [], ◌∷◌, ◌++◌, length, drop, take, get_or, slice_get, Option, Some, None, refl, ap, sym, ◌∙◌, drop-cons, add-one, append_assoc, append-nil, if◌then◌else◌}
 use Rattle.std.specs.Prelude.{map, not, nat_eq, is_none, Result, Ok, Err, OnOk}
 use Rattle.std.specs.List.{flat_map}
 use Rattle.std.proofs.Math.Seq.{take-append_seam}
@@ -20,7 +20,7 @@ use Rattle.asm_faults.specs.At.{fault_at, token}
 use Rattle.asm_faults.specs.First.{noted}
 use Rattle.asm_faults.specs.Files.{Of}
 use Rattle.asm_faults.specs.DomainFaults.{repeats, is_listed}
-use Rattle.asm_faults.specs.Terms.{Scope, Bound, Judged, judged, or_else, joined, first_type, asked, asked_each, call_faults, alike, mismatch, case_faults, LetBound, within, within_let, bind_faults, let_faults, type_named, same_type, variable_faults}
+use Rattle.asm_faults.specs.Terms.{Scope, Judged, judged, or_else, joined, first_type, asked, asked_each, call_faults, alike, mismatch, case_faults, LetBound, within, within_let, bind_faults, let_faults, type_named, same_type, variable_faults}
 use Rattle.asm_faults.proofs.Noting.{noted_append}
 use Rattle.asm_typing.specs.Pieces.{terms_judged, binds_judged, cases_judged, cases_before, variables_bound, differ}
 use Rattle.asm_typing.proofs.Forms.{term_at, term_first}

@@ -1,5 +1,5 @@
 -- Parts of what is wrong with terms.
-use Rattle.std.specs.Prelude.{ℕ, Bool as Truth, false, not, List, map, [], ◌∷◌, ◌++◌, Option, Some, None}
+use Rattle.std.specs.Prelude.{ℕ, Bool as Truth, false, not, List, map, [], ◌∷◌, ◌++◌, Option, Some}
 use Rattle.asm_sign.specs.Vocabulary.{Vocabulary}
 use Rattle.asm_node.specs.declared.term_type.TermType.{TermType}
 use Rattle.asm_tree.specs.declared.term.RawName.{RawName}

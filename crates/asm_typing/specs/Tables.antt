@@ -1,5 +1,5 @@
 -- The names of a signature, in the order of what they stand for.
-use Rattle.std.specs.Prelude.{◌≡◌, List, [], map, Option, unwrap_or}
+use Rattle.std.specs.Prelude.{◌≡◌, List, [], map, unwrap_or}
 use Rattle.std.specs.List.{flat_map}
 use Rattle.asm_domain.specs.Universe.{Universe, Truths, Numbers, Named}
 use Rattle.asm_sign.specs.declared.function.DeclaredDomain.{DeclaredDomain}

@@ -1,4 +1,4 @@
-use Rattle.std.proofs.Common.{◌≡◌, ℕ, ◌-◌, length, drop}
+use Rattle.std.proofs.Common.{◌≡◌, ℕ, ◌-◌, drop}
 use Rattle.asm_faults.specs.Terms.{within}
 use Rattle.asm_typing.proofs.binders.within.Given as goal
 

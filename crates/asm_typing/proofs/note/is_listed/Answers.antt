@@ -1,4 +1,3 @@
-use Rattle.std.proofs.Common.{◌≡◌}
 use Rattle.asm_typing.proofs.Lookups.{is_some-number_of}
 use Rattle.asm_typing.proofs.note.is_listed.Goals as goal
 

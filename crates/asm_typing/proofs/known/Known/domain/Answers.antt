@@ -3,7 +3,6 @@ use Rattle.std.specs.Prelude.{bytes_eq}
 use Rattle.asm_sign.specs.Vocabulary.{Vocabulary}
 use Rattle.asm_faults.specs.At.{Name}
 use Rattle.asm_faults.specs.DomainFaults.{boolean, integer}
-use Rattle.asm_faults.specs.FunctionFaults.{is_domain_named, domain_number}
 use Rattle.name_table.specs.Numbered.{number_of}
 use Rattle.asm_typing.specs.Tables.{domain_names}
 use Rattle.asm_typing.proofs.Lookups.{domain_place}

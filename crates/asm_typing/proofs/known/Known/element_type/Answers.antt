@@ -1,6 +1,5 @@
 use Rattle.std.proofs.Common.{◌≡◌, ℕ, List, Option, Some, None, sym, ap, ◌∙◌, slice_get}
 use Rattle.asm_sign.specs.Vocabulary.{Vocabulary}
-use Rattle.asm_node.specs.declared.term_type.TermType.{TermType}
 use Rattle.asm_faults.specs.At.{Name}
 use Rattle.asm_faults.specs.Terms.{element_type, element_in}
 use Rattle.name_table.specs.Numbered.{number_of}

@@ -1,4 +1,4 @@
-use Rattle.std.proofs.Common.{◌≡◌, List, Option, Some, None, sym, ap, ◌∙◌, slice_get}
+use Rattle.std.proofs.Common.{◌≡◌, List, Some, None, sym, ap, ◌∙◌, slice_get}
 use Rattle.asm_sign.specs.declared.function.Function.{Function}
 use Rattle.asm_sign.specs.Vocabulary.{Vocabulary}
 use Rattle.asm_faults.specs.At.{Name}

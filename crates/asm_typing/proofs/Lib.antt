@@ -1,0 +1,5 @@
+pub mod Firsts
+pub mod Forms
+pub mod Lookups
+pub mod Scopes
+pub mod Steps

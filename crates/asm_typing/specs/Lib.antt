@@ -1,0 +1,4 @@
+pub mod Bound
+pub mod Heads
+pub mod Pieces
+pub mod Tables

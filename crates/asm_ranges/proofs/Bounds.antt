@@ -1,6 +1,6 @@
 -- The bounds of what operators give.
-use Rattle.std.proofs.Common.{◌≡◌, ◌^◌, ◌<◌, ◌≤◌, ◌⊎◌, ◌↔◌, ℤ, pos, negsuc, neg_ℤ, ◌≤ℤ◌, ◌<ℤ◌, ◌+ℤ◌, ◌-ℤ◌, ◌*ℤ◌, unsigned_abs, max, Bool as Truth, true, false, ◌||◌, if◌then◌else◌, Result, Ok, Err, IfOk, IsErr, refl, sym, ap, ◌∙◌, subst, inl, inr, arith}
-use Rattle.std.specs.Prelude.{nat_lt, int_le}
+use Rattle.std.proofs.Common.{◌≡◌, ◌^◌, ◌<◌, ◌↔◌, ℤ, pos, neg_ℤ, ◌≤ℤ◌, ◌+ℤ◌, ◌-ℤ◌, ◌*ℤ◌, unsigned_abs, max, Bool as Truth, true, false, ◌||◌, if◌then◌else◌, Result, Ok, Err, IfOk, IsErr, refl, sym, subst, inl, inr, arith}
+use Rattle.std.specs.Prelude.{int_le}
 use Rattle.std.specs.Int.{int_min, int_max}
 use Rattle.std.proofs.Math.IntN.{*ℤ_comm}
 use Rattle.std.proofs.lemmas.Int.{ints, clamps, by_lt_z}
@@ -11,7 +11,7 @@ use Rattle.asm_domain.specs.Interval.{Spans, HasWide, IsResult, IsResultOfOne, H
 use Rattle.asm_domain.proofs.Spanning.{AreBounds, wide_between, low_of, high_of, sums, differences, lesser, greater, opposites}
 use Rattle.asm_domain.proofs.Products.{multiples_up, multiples_down}
 use Rattle.asm_domain.proofs.Sizes.{sizes, size_above, size_below, size_across}
-use Rattle.asm_faults.specs.Ranges.{Between, is_wide, is_refused, opposite, absolute}
+use Rattle.asm_faults.specs.Ranges.{Between, is_wide, opposite, absolute}
 use Rattle.asm_faults.specs.Ranges.{sizes as code_sizes}
 use Rattle.asm_ranges.specs.declared.spread.Arithmetic.TheVariants.{Plus, Minus, Times, Min, Max}
 use Rattle.asm_ranges.specs.Spreads.{HasEnds, ends}

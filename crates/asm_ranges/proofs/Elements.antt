@@ -1,5 +1,5 @@
 -- The intervals of domains.
-use Rattle.std.proofs.Common.{◌≡◌, ℕ, zero, suc, ◌+◌, ◌<◌, ◌≤◌, ℤ, List, [], ◌∷◌, length, drop, get_or, slice_get, Option, Some, refl, sym, ap, ◌∙◌, drop-cons, add-one, arith}
+use Rattle.std.proofs.Common.{◌≡◌, ℕ, zero, suc, ◌+◌, ℤ, List, [], ◌∷◌, drop, slice_get, Some, refl, ap, add-one}
 use Rattle.std.specs.Prelude.{map}
 use Rattle.std.specs.Int.{int_min, int_max}
 use Rattle.asm_domain.specs.declared.value.Value.{Value}

@@ -1,5 +1,5 @@
 -- What is measured of a term, by its variants.
-use Rattle.std.proofs.Common.{◌≡◌, ℕ, Bool as Truth, List, [], ◌∷◌, ◌++◌, Option, Some, None, refl, ap, sym, ◌∙◌}
+use Rattle.std.proofs.Common.{◌≡◌, ℕ, Bool as Truth, List, [], ◌∷◌, refl, ap, sym, ◌∙◌}
 use Rattle.std.specs.Prelude.{map}
 use Rattle.asm_sign.specs.Vocabulary.{Vocabulary}
 use Rattle.asm_tree.specs.declared.operator.Op.{Op}
@@ -7,7 +7,7 @@ use Rattle.asm_tree.specs.declared.operator.UnaryOp.{UnaryOp}
 use Rattle.asm_tree.specs.declared.operator.Quantifier.{Quantifier}
 use Rattle.asm_tree.specs.declared.term.RawBinder.{RawBinder}
 use Rattle.asm_tree.specs.declared.term.RawTerm.{RawTerm, RawTerm-F, fold_out-RawTerm}
-use Rattle.asm_tree.specs.declared.term.RawTermKind.{RawTermKind, fold-RawTermKind, fold-roll-RawTermKind, fold_out-RawTermKind}
+use Rattle.asm_tree.specs.declared.term.RawTermKind.{RawTermKind, fold-RawTermKind, fold-roll-RawTermKind}
 use Rattle.asm_tree.specs.declared.term.RawTermKind.TheVariants as term_kind
 use Rattle.asm_tree.specs.declared.term.RawTermKind.TheOpen.{RawTermKind-F, RawBind-F, RawCase-F}
 use Rattle.asm_tree.specs.declared.term.RawCase.{RawCase, fold-RawCase, fold_out-RawCase}

@@ -1,5 +1,5 @@
 -- What is refused in rules, rule by rule.
-use Rattle.std.proofs.Common.{◌≡◌, ℕ, suc, ◌+◌, ◌<◌, List, ◌∷◌, length, drop, get_or, Option, refl, ap, sym, ◌∙◌, drop-cons, add-one}
+use Rattle.std.proofs.Common.{◌≡◌, ℕ, suc, ◌+◌, ◌<◌, List, length, drop, get_or, Option, ap, sym, ◌∙◌, drop-cons, add-one}
 use Rattle.asm_sign.specs.Vocabulary.{Vocabulary}
 use Rattle.asm_tree.specs.declared.rule.RawRule.{RawRule}
 use Rattle.asm_tree.specs.declared.rule.RawRuleCase.{RawRuleCase}

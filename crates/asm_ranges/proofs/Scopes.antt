@@ -1,7 +1,7 @@
 -- Variables that are bound.
-use Rattle.std.proofs.Common.{◌≡◌, ℕ, suc, ◌+◌, ◌<◌, Bool as Truth, true, false, List, [], ◌∷◌, ◌++◌, length, take, drop, get_or, Option, Some, None, refl, ap, sym, ◌∙◌, drop-cons, add-one, if◌then◌else◌}
+use Rattle.std.proofs.Common.{◌≡◌, ℕ, suc, ◌+◌, ◌<◌, Bool as Truth, true, false, List, length, drop, get_or, Option, Some, None, refl, ap, ◌∙◌, drop-cons, add-one, if◌then◌else◌}
 use Rattle.std.specs.Prelude.{map, bytes_eq}
-use Rattle.asm_faults.specs.Ranges.{Spread, NoNumber, Spreading, Scope, or_bound, bound_spread, spread_or_none}
+use Rattle.asm_faults.specs.Ranges.{Spread, NoNumber, or_bound, bound_spread, spread_or_none}
 use Rattle.asm_ranges.specs.declared.spread.Spread as code
 use Rattle.asm_ranges.specs.Spreads.{bounds_of}
 use Rattle.asm_ranges.specs.Bound.{bound_of}

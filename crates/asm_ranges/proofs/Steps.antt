@@ -1,6 +1,5 @@
 -- Faults that are noted item by item.
 use Rattle.std.proofs.Common.{◌≡◌, ℕ, suc, ◌+◌, ◌-◌, ◌<◌, List, [], ◌∷◌, ◌++◌, length, drop, take, get_or, Option, refl, ap, sym, ◌∙◌, drop-cons, add-one, append_assoc, append-nil, arith}
-use Rattle.std.specs.Prelude.{map}
 use Rattle.std.specs.List.{flat_map}
 use Rattle.std.proofs.Math.Seq.{take-append_seam}
 use Rattle.asm_sign.specs.Vocabulary.{Vocabulary}
@@ -10,7 +9,7 @@ use Rattle.asm_tree.specs.declared.term.RawCase.{RawCase}
 use Rattle.asm_tree.specs.declared.term.RawTerm.{RawTerm}
 use Rattle.asm_faults.specs.declared.fault.Fault.{Fault}
 use Rattle.asm_faults.specs.First.{noted}
-use Rattle.asm_faults.specs.Ranges.{Spread, either, Spreading, Scope, Measured, measured, Bound, bound, each, case_faults, either_case, within, within_let, bind_faults, spread_named}
+use Rattle.asm_faults.specs.Ranges.{Spread, either, Scope, Measured, measured, Bound, bound, each, case_faults, either_case, within, within_let, bind_faults, spread_named}
 use Rattle.asm_faults.proofs.Noting.{noted_append}
 use Rattle.asm_ranges.specs.Pieces.{terms_measured, cases_measured}
 use Rattle.asm_ranges.proofs.Either.{either-assoc}

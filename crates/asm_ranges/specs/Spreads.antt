@@ -3,8 +3,6 @@ use Rattle.std.specs.Prelude.{◌≡◌, ◌^◌, ℤ, pos, neg_ℤ, ◌+ℤ◌,
 use Rattle.std.specs.Int.{int_min, int_max}
 use Rattle.asm_domain.specs.declared.interval.Interval.{Interval}
 use Rattle.asm_domain.specs.declared.interval.RangeTooWide.{RangeTooWide}
-use Rattle.asm_domain.specs.declared.value.Value.{Value}
-use Rattle.asm_domain.specs.declared.value.Value.TheVariants.{Undef, Bool, Int, Elem}
 use Rattle.asm_faults.specs.Ranges.{Spread, NoNumber, Between, Missing, among, is_refused}
 use Rattle.asm_ranges.specs.declared.spread.Spread as code
 use Rattle.asm_ranges.specs.declared.spread.Spread.TheVariants as form

@@ -1,4 +1,4 @@
-use Rattle.std.proofs.Common.{◌≡◌, ◌+◌, ◌≤◌, length, drop, ap, sym, ◌∙◌, arith}
+use Rattle.std.proofs.Common.{◌+◌, ◌≤◌, length, drop, ap, sym, ◌∙◌, arith}
 use Rattle.asm_domain.specs.Universe.{elements}
 use Rattle.asm_faults.specs.Ranges.{Spread, either}
 use Rattle.asm_ranges.specs.Elements.{with_elements}

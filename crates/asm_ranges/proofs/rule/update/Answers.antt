@@ -1,4 +1,4 @@
-use Rattle.std.proofs.Common.{◌≡◌, Option, sym, ap, ◌∙◌}
+use Rattle.std.proofs.Common.{Option, sym, ap, ◌∙◌}
 use Rattle.asm_faults.specs.declared.fault.Fault.{Fault}
 use Rattle.asm_faults.specs.First.{noted}
 use Rattle.asm_faults.specs.Ranges.{Scope, Measured, measured, each}

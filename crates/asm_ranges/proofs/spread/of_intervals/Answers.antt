@@ -1,6 +1,4 @@
-use Rattle.std.proofs.Common.{sym, subst}
 use Rattle.asm_ranges.proofs.Bounds.{of_sum, of_difference, of_product, of_least, of_greatest}
-use Rattle.asm_ranges.specs.Spreads.{HasEnds, ends}
 use Rattle.asm_ranges.proofs.spread.of_intervals.Goals as goal
 
 pub returns-in-Plus : goal.returns-in-Plus

@@ -1,7 +1,6 @@
-use Rattle.std.proofs.Common.{◌≡◌, ℕ, ◌+◌, ◌<◌, ℤ, pos, to_z, of_z, w64, List, [], ◌∷◌, ◌++◌, drop, take, length, Option, refl, sym, ap, subst, ◌∙◌, arith}
+use Rattle.std.proofs.Common.{◌≡◌, ℕ, ◌+◌, ℤ, to_z, of_z, w64, List, [], ◌∷◌, ◌++◌, drop, take, Option, refl, sym, ap, subst, ◌∙◌, arith}
 use Rattle.std.specs.Prelude.{IfOk, OnOk}
 use Rattle.std.proofs.lemmas.Int.{ints}
-use borrow.Author.Sizes.{sizes}
 use Rattle.asm_sign.specs.Vocabulary.{Vocabulary}
 use Rattle.asm_tree.specs.declared.term.RawCase.{RawCase}
 use Rattle.asm_tree.specs.declared.term.RawTerm.{RawTerm}

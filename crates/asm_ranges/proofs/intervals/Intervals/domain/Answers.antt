@@ -1,8 +1,8 @@
-use Rattle.std.proofs.Common.{◌≡◌, Some, None, sym, ap, ◌∙◌, arith}
+use Rattle.std.proofs.Common.{Some, None, sym, ap, ◌∙◌}
 use Rattle.std.specs.Option.{option_copied}
 use Rattle.asm_sign.specs.Vocabulary.{Vocabulary}
 use Rattle.asm_faults.specs.Ranges.{domain_spread}
-use Rattle.asm_ranges.proofs.Lookups.{spread_at, whole_at}
+use Rattle.asm_ranges.proofs.Lookups.{spread_at}
 use Rattle.asm_ranges.proofs.intervals.Intervals.domain.Goals as goal
 
 pub returns-in-Some : goal.returns-in-Some

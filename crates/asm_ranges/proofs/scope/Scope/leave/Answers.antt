@@ -1,4 +1,4 @@
-use Rattle.std.proofs.Common.{◌≡◌, sym, ap, ◌∙◌, take}
+use Rattle.std.proofs.Common.{sym, ap, ◌∙◌, take}
 use Rattle.std.specs.Prelude.{map}
 use Rattle.std.proofs.lemmas.List.{take-map}
 use Rattle.asm_ranges.specs.Bound.{bound_of}

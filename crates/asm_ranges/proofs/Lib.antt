@@ -1,0 +1,10 @@
+pub mod Bounds
+pub mod Either
+pub mod Elements
+pub mod Ends
+pub mod Forms
+pub mod Lookups
+pub mod RuleForms
+pub mod RuleSteps
+pub mod Scopes
+pub mod Steps

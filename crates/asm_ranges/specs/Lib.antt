@@ -1,0 +1,5 @@
+pub mod Bound
+pub mod Elements
+pub mod Pieces
+pub mod Spreading
+pub mod Spreads

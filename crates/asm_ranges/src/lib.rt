@@ -1,0 +1,13 @@
+//! The intervals of integer terms, and where one is refused.
+#![tactic(auto)]
+
+mod domain;
+mod intervals;
+mod rule;
+mod scope;
+mod spread;
+mod term;
+
+pub use intervals::Intervals;
+pub use scope::Scope;
+pub use spread::Spread;

@@ -1,2 +1,4 @@
 pub mod Finding
 pub mod Noting
+pub mod Order
+mod Rows

@@ -98,14 +98,14 @@ is_part (Part base) = true
 is_part form = false
 
 -- it has to be declared as a part of another domain
+abbrev pub declared_target_faults : DomainDefinition → Option DeclaredDomain → List Fault
+declared_target_faults d None = fault_at Unknown d.unit d.name ∷ []
+declared_target_faults d (Some e) = if is_part e.form then [] else fault_at WrongKind d.unit d.name ∷ []
+
 abbrev pub target_faults : List LoadedUnit → DomainDefinition → List Fault
 target_faults units d =
     if is_listed (boolean ∷ integer ∷ []) d.name.text then fault_at WrongKind d.unit d.name ∷ []
-    else of_declared (domain_named units d.name.text)
-  where
-    of_declared : Option DeclaredDomain → List Fault
-    of_declared None = fault_at Unknown d.unit d.name ∷ []
-    of_declared (Some e) = if is_part e.form then [] else fault_at WrongKind d.unit d.name ∷ []
+    else declared_target_faults d (domain_named units d.name.text)
 
 -- a domain is defined again
 abbrev pub definition_repeats : List DomainDefinition → List Fault
@@ -131,22 +131,22 @@ size_faults units d =
     if nat_eq count 0 then fault_at EmptyDomain d.unit d.name ∷ []
     else (if nat_lt 256 count then fault_at DomainTooLarge d.unit d.name ∷ [] else [])
 
+-- what is wrong with a part, of which this is the first definition
+abbrev pub part_faults : List LoadedUnit → DeclaredDomain → Option DomainDefinition → List Fault
+part_faults units d None = fault_at NoDefinition d.unit d.name ∷ []
+part_faults units d (Some e) = size_faults units d
+
 -- a part has to be one of the whole numbers and to have a definition
 abbrev pub declaration_faults : List LoadedUnit → DeclaredDomain → List Fault
 declaration_faults units d = by_form d.form
   where
     by_form : DomainForm → List Fault
     by_form (Enumerated es) = size_faults units d
-    by_form (Part base) = (if has_name integer base then [] else fault_at WrongKind d.unit base ∷ []) ++ defined (definition_of_domain units d.name.text)
-      where
-        defined : Option DomainDefinition → List Fault
-        defined None = fault_at NoDefinition d.unit d.name ∷ []
-        defined (Some e) = size_faults units d
+    by_form (Part base) = (if has_name integer base then [] else fault_at WrongKind d.unit base ∷ []) ++ part_faults units d (definition_of_domain units d.name.text)
     by_form Abstract = size_faults units d
 
 abbrev pub domain_faults : List LoadedUnit → List Fault
 domain_faults units =
-    flat_map (declaration_faults units) (domains units)
-    ++ (flat_map (target_faults units) (domain_definitions units)
-    ++ (definition_repeats (domain_definitions units)
-    ++ flat_map numeral_faults (domain_definitions units)))
+    definition_repeats (domain_definitions units)
+    ++ (flat_map (declaration_faults units) (domains units)
+    ++ flat_map (λ d. target_faults units d ++ numeral_faults d) (domain_definitions units))

@@ -1,5 +1,5 @@
 -- Which of several faults comes first.
-use Rattle.std.specs.Prelude.{ℕ, Bool as Truth, ◌&&◌, ◌||◌, nat_eq, nat_lt, if◌then◌else◌, List, [], ◌∷◌, Option, Some, None}
+use Rattle.std.specs.Prelude.{◌≡◌, ℕ, Bool as Truth, false, ◌&&◌, ◌||◌, nat_eq, nat_lt, if◌then◌else◌, List, [], ◌∷◌, Option, Some, None, Contains}
 use Rattle.asm_faults.specs.declared.fault.ModelFault.{ModelFault}
 use Rattle.asm_faults.specs.declared.fault.ModelFault.TheVariants.{Duplicate, Unknown, WrongKind, WrongArity, WrongType, Unbound, EmptyDomain, DomainTooLarge, TooManyLocations, NoDefinition, NoMain, NoInit, Cycle, CallsTooDeep, ForbiddenRead, RangeTooWide}
 use Rattle.asm_faults.specs.declared.fault.Fault.{Fault}
@@ -45,3 +45,8 @@ or_later None later = later
 abbrev pub first_fault : List (List Fault) → Option Fault
 first_fault [] = None
 first_fault (faults ∷ passes) = or_later (noted None faults) (first_fault passes)
+
+-- one of the faults, and none of them comes before it
+pub record IsFirst (faults : List Fault) (a : Fault) : Type 0 where
+  pub is_one : Contains faults a
+  pub none_before : (b : Fault) → Contains faults b → is_before b a ≡ false

@@ -1,6 +1,7 @@
 pub mod At
 pub mod Bodies
 pub mod Calls
+pub mod Check
 pub mod DomainFaults
 pub mod Files
 pub mod First

@@ -195,12 +195,12 @@ module _ (v : Vocabulary) where
     abbrev pub made : (Scope → Spread) → (Scope → List Fault) → Kind
     made spread faults at first = record { spread = spread; faults = faults }
 
-    -- an operator's interval may be refused
+    -- an operator's interval may be refused; a number's too, though none over 2^31 is written
     abbrev pub operation : (Scope → Spread) → (Scope → List Fault) → Kind
     operation spread faults at first = record { spread = λ s. unless_refused (spread s); faults = λ s. faults s ++ refused (spread s) at first }
 
     abbrev pub measure_kind : RawTermKind-F Kind Bound (Measured × Measured) Measured → Kind
-    measure_kind (RawTermKind-F.Number x) = made (λ s. Between (pos x) (pos x)) (λ s. [])
+    measure_kind (RawTermKind-F.Number x) = operation (λ s. Between (pos x) (pos x)) (λ s. [])
     measure_kind (RawTermKind-F.Truth b) = made (λ s. NoNumber) (λ s. [])
     measure_kind RawTermKind-F.Undef = made (λ s. Between (pos 0) (pos 0)) (λ s. [])
     measure_kind (RawTermKind-F.Variable x) = made (λ s. spread_or_none (bound_spread s x)) (λ s. [])

@@ -4,7 +4,9 @@
 mod fault;
 mod first;
 mod known;
+mod law;
 
 pub use fault::{Fault, ModelFault};
 pub use first::First;
 pub use known::Known;
+pub use law::first_is_least;

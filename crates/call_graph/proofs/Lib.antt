@@ -1,0 +1,6 @@
+mod Found
+mod Nodes
+mod RowSteps
+mod Shorter
+mod Leading
+mod Walks

@@ -1,5 +1,5 @@
 -- The bounds of what operators give.
-use Rattle.std.proofs.Common.{◌≡◌, ◌^◌, ◌<◌, ◌↔◌, ℤ, pos, neg_ℤ, ◌≤ℤ◌, ◌+ℤ◌, ◌-ℤ◌, ◌*ℤ◌, unsigned_abs, max, Bool as Truth, true, false, ◌||◌, if◌then◌else◌, Result, Ok, Err, IfOk, IsErr, refl, sym, subst, inl, inr, arith}
+use Rattle.std.proofs.Common.{[], ◌≡◌, ℕ, ◌^◌, ◌<◌, ◌↔◌, ℤ, pos, neg_ℤ, ◌≤ℤ◌, ◌+ℤ◌, ◌-ℤ◌, ◌*ℤ◌, unsigned_abs, max, Bool as Truth, true, false, ◌||◌, if◌then◌else◌, Result, Ok, Err, IfOk, IsErr, refl, sym, subst, inl, inr, arith}
 use Rattle.std.specs.Prelude.{int_le}
 use Rattle.std.specs.Int.{int_min, int_max}
 use Rattle.std.proofs.Math.IntN.{*ℤ_comm}
@@ -11,7 +11,9 @@ use Rattle.asm_domain.specs.Interval.{Spans, HasWide, IsResult, IsResultOfOne, H
 use Rattle.asm_domain.proofs.Spanning.{AreBounds, wide_between, low_of, high_of, sums, differences, lesser, greater, opposites}
 use Rattle.asm_domain.proofs.Products.{multiples_up, multiples_down}
 use Rattle.asm_domain.proofs.Sizes.{sizes, size_above, size_below, size_across}
-use Rattle.asm_faults.specs.Ranges.{Between, is_wide, opposite, absolute}
+use Rattle.asm_sign.specs.Vocabulary.{Vocabulary}
+use Rattle.asm_faults.specs.At.{Name}
+use Rattle.asm_faults.specs.Ranges.{Spread, unless_refused, refused, is_refused, Between, is_wide, opposite, absolute}
 use Rattle.asm_faults.specs.Ranges.{sizes as code_sizes}
 use Rattle.asm_ranges.specs.declared.spread.Arithmetic.TheVariants.{Plus, Minus, Times, Min, Max}
 use Rattle.asm_ranges.specs.Spreads.{HasEnds, ends}
@@ -58,6 +60,19 @@ has_ends numbers l h (Err e) are spans refused =
       | inl over ↦ or_left (is_wide l) (is_wide h) (wide_test l over)
       | inr over ↦ or_right (is_wide l) (is_wide h) (wide_test h over)
     ]
+
+-- a number of 32 bits isn't refused
+pub narrow_number : (n : ℕ) → n < 2 ^ 32 → is_refused (Between (pos n) (pos n)) ≡ false
+narrow_number n h = or_false (is_wide (pos n)) (is_wide (pos n)) (λ wide. let w = narrow_test (pos n) wide in over n h w) (λ wide. let w = narrow_test (pos n) wide in over n h w)
+  where
+    over : (n : ℕ) → n < 2 ^ 32 → 2 ^ 62 < n → ⊥
+    over n h w = omega arith
+
+pub kept : (r : Spread) → is_refused r ≡ false → r ≡ unless_refused r
+kept r e = rw e refl
+
+pub not_refused : (v : Vocabulary) (n : ℕ) (r : Spread) (at : ℕ) (first : Name) → is_refused r ≡ false → refused v n r at first ≡ []
+not_refused v n r at first e = rw e refl
 
 -- ---- products
 

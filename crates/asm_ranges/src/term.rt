@@ -1,6 +1,6 @@
 //! Terms: their intervals, and where one is refused.
 
-ghost use Rattle.std.specs.Prelude.{◌≡◌, ℕ, ◌++◌, IfOk, OnOk};
+ghost use Rattle.std.specs.Prelude.{◌≡◌, ◌++◌, pos, false, IfOk, OnOk};
 ghost use Rattle.asm_sign.specs.Vocabulary.{Vocabulary};
 ghost use Rattle.asm_faults.specs.First.{noted};
 ghost use Rattle.asm_faults.specs.Terms.{function_named};
@@ -33,7 +33,7 @@ pub fn term(
     ensures faults { OnOk result (first.new ≡ noted first.old ((measured known.now unit item.now).faults scope.old)) }
 {
     match &item.kind {
-        RawTermKind::Number(number) => Ok(Spread::one(i64::from(*number))),
+        RawTermKind::Number(number) => Ok(literal(*number)),
         RawTermKind::Truth(_) => Ok(Spread::NoNumber),
         RawTermKind::Undef => Ok(Spread::one(0)),
         RawTermKind::Variable(name) => Ok(scope.find(name)),
@@ -78,6 +78,15 @@ pub fn term(
             quantified(known, unit, scope, first, items.slice(), guard.get())
         }
     }
+}
+
+/// The interval of a number that is written in a text. It is never refused.
+#[tactic(auto, using(crate::proofs::Bounds::narrow_number))]
+fn literal(number: u32) -> Spread
+    ensures value { bounds_of result ≡ bounds.Between (pos number) (pos number) }
+    ensures narrow { bounds.is_refused (bounds.Between (pos number) (pos number)) ≡ false }
+{
+    Spread::one(i64::from(number))
 }
 
 /// Notes that an operator's interval is refused; it is missing then.

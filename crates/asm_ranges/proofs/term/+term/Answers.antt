@@ -1,4 +1,4 @@
-use Rattle.std.proofs.Common.{◌≡◌, ℕ, ◌+◌, ℤ, to_z, of_z, w64, List, [], ◌∷◌, ◌++◌, drop, take, Option, refl, sym, ap, subst, ◌∙◌, arith}
+use Rattle.std.proofs.Common.{pos, ◌≡◌, ℕ, ◌+◌, ℤ, to_z, of_z, w64, List, [], ◌∷◌, ◌++◌, drop, take, Option, refl, sym, ap, subst, ◌∙◌, arith}
 use Rattle.std.specs.Prelude.{IfOk, OnOk}
 use Rattle.std.proofs.lemmas.Int.{ints}
 use Rattle.asm_sign.specs.Vocabulary.{Vocabulary}
@@ -11,6 +11,7 @@ use Rattle.asm_faults.specs.Ranges.{Scope, Spread, Between, Measured, measured, 
 use Rattle.asm_faults.proofs.Noting.{noted_append}
 use Rattle.asm_ranges.specs.Spreads.{bounds_of}
 use Rattle.asm_ranges.specs.Pieces.{terms_measured, cases_measured}
+use Rattle.asm_ranges.proofs.Bounds.{kept, not_refused}
 use Rattle.asm_ranges.proofs.Either.{either_none}
 use Rattle.asm_ranges.proofs.Ends.{drop_end}
 use Rattle.asm_ranges.proofs.Forms as forms
@@ -24,12 +25,12 @@ term-returns-in-Number t0 c =
     let s : Scope = c.args.scope.now in
     let t : RawTerm = c.args.item.now in
     let x : ℕ = c.in-Number.number in
+    let r : Spread = Between (pos x) (pos x) in
     let e : measured v n t ≡ measure_kind v n (RawTermKind-F.Number x) t.at t.first = forms.number v n t x c.in-Number.is in
-    let z : to_z w64 (of_z w64 c.from.result) ≡ c.from.result = omega (arith, ints) in
     record {
-      spread = c.one.ensures ∙ ap (λ (y : ℤ). Between y y) (z ∙ c.from.ensures) ∙ ap (λ (m : Measured). m.spread s) (sym e);
+      spread = c.literal.ensures.value ∙ kept r c.literal.ensures.narrow ∙ ap (λ (m : Measured). m.spread s) (sym e);
       scope = refl;
-      faults = ap (λ (m : Measured). noted c.args.first.now (m.faults s)) (sym e);
+      faults = ap (noted c.args.first.now) (sym (not_refused v n r t.at t.first c.literal.ensures.narrow)) ∙ ap (λ (m : Measured). noted c.args.first.now (m.faults s)) (sym e);
     }
 
 pub term-returns-in-Truth : goal.term-returns-in-Truth
@@ -53,7 +54,7 @@ term-returns-in-Undef t0 c =
     let t : RawTerm = c.args.item.now in
     let e : measured v n t ≡ measure_kind v n (RawTermKind-F.Undef) t.at t.first = forms.undef v n t c.in-Undef.is in
     record {
-      spread = c.one-in-Undef.ensures ∙ ap (λ (m : Measured). m.spread s) (sym e);
+      spread = c.one.ensures ∙ ap (λ (m : Measured). m.spread s) (sym e);
       scope = refl;
       faults = ap (λ (m : Measured). noted c.args.first.now (m.faults s)) (sym e);
     }

@@ -33,9 +33,9 @@ use Rattle.asm_faults.specs.Terms as typing
 use Rattle.asm_faults.specs.Terms.{judged, function_named, binder_faults, asked, arity_faults}
 use Rattle.asm_faults.specs.Bodies as bodies
 use Rattle.asm_faults.specs.Bodies.{heads_of, is_defined_by_term, has_initial, of_parameters, parameter_faults, function_body_faults, functions_faults, macro_faults, invariant_faults}
-use Rattle.asm_faults.specs.Ranges.{Scope, measured, within, term_faults, rule_faults, function_faults, range_faults}
+use Rattle.asm_faults.specs.Ranges.{within, term_faults, rule_faults, function_faults, range_faults}
 use Rattle.asm_faults.specs.Check.{model_fault}
-use Rattle.asm_faults.specs.Model.{IsNumbering, function_number, binders_of, tree_of, rule_of, file_of, definition_of, macro_of, main_rules, first_or_skip, machine_of}
+use Rattle.asm_faults.specs.Model.{IsNumbering, binders_of, tree_of, rule_of, file_of, definition_of, macro_of, main_rules, first_or_skip, machine_of}
 use Rattle.asm_sound.specs.Checked.{AreFaultless}
 use Rattle.asm_sound.proofs.Scopes.{full, none_left, none_right, holds}
 use Rattle.asm_sound.proofs.TypedTerms.{IsReady, no_some, asked_own, function_found}
@@ -46,7 +46,7 @@ use Rattle.asm_sound.proofs.Signature.{signature_ready}
 use Rattle.asm_sound.proofs.Checking.{checked}
 use Rattle.asm_sound.proofs.Forming.{AreRanged, well_formed}
 use Rattle.asm_sound.proofs.NoFault.{faultless, unrefused}
-use Rattle.asm_sound.proofs.RangedScopes.{known_number, Agrees, agrees_none, Match, parameters_in}
+use Rattle.asm_sound.proofs.RangedScopes.{known_number, agrees_none, Match, parameters_in}
 use Rattle.asm_sound.proofs.RangedTerms.{term_ranged}
 use Rattle.asm_sound.proofs.RangedRules.{rule_ranged}
 

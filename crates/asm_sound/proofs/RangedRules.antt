@@ -12,7 +12,7 @@ use Rattle.asm_node.specs.Tree.{Tree}
 use Rattle.asm_node.specs.RuleTree as rule
 use Rattle.asm_node.specs.RuleTree.{Rule}
 use Rattle.asm_node.specs.Types.{domain_type}
-use Rattle.asm_node.specs.Ranges.{Range, NoNumber, Ranges, put_range, AreBound, HasRange, IsRanged}
+use Rattle.asm_node.specs.Ranges.{Range, NoNumber, Ranges, put_range, AreBound, HasRange}
 use Rattle.asm_node.specs.RuleRanges.{AreRanged, IsRangedRule, AreRangedRules}
 use Rattle.asm_tree.specs.declared.term.RawBinder.{RawBinder}
 use Rattle.asm_tree.specs.declared.term.RawBind.{RawBind}
@@ -32,12 +32,11 @@ use Rattle.asm_faults.specs.Bodies as bodies
 use Rattle.asm_faults.specs.Bodies.{RuleHead, head_named, update_faults, rule_call_faults, case_faults, kind_faults}
 use Rattle.asm_faults.specs.Ranges as spread
 use Rattle.asm_faults.specs.Ranges.{Spread, Scope, Measured, Bound, measured, each, within, within_let, bind_faults, bound, term_faults}
-use Rattle.asm_faults.specs.Model.{IsNumbering, function_number, rule_number, place_at, binders_of, trees_of, is_case, parts_of, sequence, sequence_of, switch_rule, let_rule, rule_kind, rule_of, tree_of}
+use Rattle.asm_faults.specs.Model.{IsNumbering, function_number, place_at, binders_of, trees_of, parts_of, sequence, sequence_of, switch_rule, let_rule, rule_kind, rule_of, tree_of}
 use Rattle.asm_sound.proofs.Inductions.{Every}
 use Rattle.asm_sound.proofs.Scopes.{full, none_left, none_right}
 use Rattle.asm_sound.proofs.TypedTerms.{IsReady, asked_own}
 use Rattle.asm_sound.proofs.RuleForms.{RuleForm, RuleParts, rule_at, induct_rules, folded_rule, fold_rule_at, faults_form, faults_at, rule_form, rule_is}
-use Rattle.asm_sound.proofs.Spreads.{spread_of}
 use Rattle.asm_sound.proofs.RangedScopes.{Agrees, agrees_more, bound_in}
 use Rattle.asm_sound.proofs.RangedTerms.{Ranged, test_ranged, arguments_ranged, term_ranged, terms_ranged}
 

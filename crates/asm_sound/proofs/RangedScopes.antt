@@ -1,5 +1,5 @@
 -- The ranges of domains, and those of the variables that are bound in a scope.
-use Rattle.std.proofs.Common.{◌≡◌, ℕ, zero, suc, ◌^◌, ◌<◌, ◌≤◌, ◌⊎◌, inl, inr, length, ℤ, pos, negsuc, neg_ℤ, ◌≤ℤ◌, unsigned_abs, Bool as Truth, true, false, true≢false, ◌||◌, nat_eq, if◌then◌else◌, List, [], ◌∷◌, ◌++◌, Option, Some, None, slice_get, refl, sym, ap, subst, ◌∙◌, arith}
+use Rattle.std.proofs.Common.{◌≡◌, ℕ, zero, suc, ◌^◌, ◌≤◌, ◌⊎◌, inl, inr, length, ℤ, pos, negsuc, neg_ℤ, ◌≤ℤ◌, unsigned_abs, Bool as Truth, true, false, true≢false, ◌||◌, nat_eq, if◌then◌else◌, List, [], ◌∷◌, ◌++◌, Option, Some, None, slice_get, refl, sym, ap, subst, ◌∙◌, arith}
 use Rattle.std.specs.Prelude.{map, nat_le, bytes_eq}
 use Rattle.std.specs.Int.{int_min, int_max}
 use Rattle.std.specs.Int.Signed.{≤ℤ_refl}
@@ -12,13 +12,12 @@ use Rattle.std.proofs.lemmas.Bool.Decides.{Decides-int_eq}
 use Rattle.std.proofs.lemmas.List.Quantifiers.{position-Some}
 use Rattle.asm_domain.specs.declared.value.Value.{Value}
 use Rattle.asm_domain.specs.declared.value.Value.TheVariants.{Int}
-use Rattle.asm_domain.specs.Interval.{Spans}
 use Rattle.asm_domain.specs.Universe.{Universe, Truths, Numbers, Named, elements, named_from}
 use Rattle.asm_sign.specs.Arguments.{elements_of}
 use Rattle.asm_sign.specs.declared.function.DeclaredDomain.{DeclaredDomain}
 use Rattle.asm_sign.specs.Vocabulary.{Vocabulary}
 use Rattle.asm_node.specs.Values.{whole, same, is_whole}
-use Rattle.asm_node.specs.Ranges.{Range, NoNumber, From, IsRangeOf, Ranges, no_ranges, put_range, IsDomainRange, AreBound, AreParameters}
+use Rattle.asm_node.specs.Ranges.{Range, NoNumber, IsRangeOf, Ranges, no_ranges, put_range, IsDomainRange, AreBound, AreParameters}
 use Rattle.asm_tree.specs.declared.term.RawName.{RawName}
 use Rattle.asm_tree.specs.declared.term.RawBinder.{RawBinder}
 use Rattle.asm_faults.specs.declared.fault.Fault.{Fault}
@@ -29,7 +28,6 @@ use Rattle.asm_faults.specs.Files.{has_name}
 use Rattle.asm_faults.specs.FunctionFaults.{domain_number, is_domain_named, number_or_whole, unknown_domain}
 use Rattle.asm_faults.specs.Terms.{infinite_faults}
 use Rattle.asm_faults.specs.Model.{IsNumbering, binders_of}
-use Rattle.asm_faults.specs.Ranges as spread
 use Rattle.asm_faults.specs.Ranges.{Spread, Between, spread_from, universe_spread, declared_spread, domain_spread, numbered_spread, spread_named, Spreading, Scope, or_bound, bound_spread, spread_or_none, within}
 use Rattle.asm_sound.proofs.Scopes.{full, none_left, none_right, fails, same_names}
 use Rattle.asm_sound.proofs.TypedTerms.{below_whole}

@@ -1,5 +1,5 @@
 -- Where nothing is wrong in a term and no interval in it is refused, its tree has the range that the check says.
-use Rattle.std.proofs.Common.{◌≡◌, ℕ, ℤ, pos, ◌≤ℤ◌, Bool as Truth, true, false, List, [], ◌∷◌, ◌++◌, length, Option, Some, None, slice_get, refl, sym, ap, subst, ◌∙◌, arith}
+use Rattle.std.proofs.Common.{◌≡◌, ℕ, ℤ, pos, ◌≤ℤ◌, false, List, [], ◌∷◌, ◌++◌, length, Option, Some, None, refl, sym, ap, subst, ◌∙◌}
 use Rattle.std.specs.Prelude.{map}
 use Rattle.std.specs.List.{flat_map}
 use Rattle.std.specs.Int.Signed.{≤ℤ_refl}
@@ -13,10 +13,8 @@ use Rattle.asm_node.specs.declared.term_type.TermType.TheVariants.{Boolean}
 use Rattle.asm_node.specs.Types.{domain_type}
 use Rattle.asm_node.specs.Tree as tree
 use Rattle.asm_node.specs.Tree.{Tree, Trees}
-use Rattle.asm_node.specs.Ranges.{Range, NoNumber, Ranges, constant_numbers, put_range, IsCodomainRange, HasRange, HaveRanges, IsRanged}
+use Rattle.asm_node.specs.Ranges.{Range, NoNumber, Ranges, constant_numbers, put_range, IsCodomainRange, HasRange}
 use Rattle.asm_node.specs.RuleRanges.{AreRanged}
-use Rattle.asm_tree.specs.declared.operator.Op.{Op}
-use Rattle.asm_tree.specs.declared.operator.UnaryOp.{UnaryOp}
 use Rattle.asm_tree.specs.declared.term.RawBinder.{RawBinder}
 use Rattle.asm_tree.specs.declared.term.RawBind.{RawBind, RawBind-F}
 use Rattle.asm_tree.specs.declared.term.RawCase.{RawCase, RawCase-F}
@@ -31,7 +29,7 @@ use Rattle.asm_faults.specs.Terms as typing
 use Rattle.asm_faults.specs.Terms.{Judged, judged, judge_kind, LetBound, asked, asked_each, alike, or_else, unary_asks, asks, element_type, element_faults, arity_faults, call_faults, function_named, variables_of, binder_faults, infinite_faults, let_faults}
 use Rattle.asm_faults.specs.Ranges as spread
 use Rattle.asm_faults.specs.Ranges.{Spread, Between, Scope, Measured, Bound, Kind, measured, measure_kind, is_refused, unless_refused, refused, each, case_faults, either, either_case, within, within_let, bind_faults, codomain_spread}
-use Rattle.asm_faults.specs.Model.{IsNumbering, function_number, binders_of, op_of, unary_of, trees_of, is_case, switch_tree, let_tree, tree_kind, tree_of}
+use Rattle.asm_faults.specs.Model.{IsNumbering, function_number, trees_of, is_case, switch_tree, let_tree, tree_kind, tree_of}
 use Rattle.asm_sound.proofs.Inductions.{Every, Form, Parts, at_form, induct, folded_form, fold_at}
 use Rattle.asm_sound.proofs.Folding.{judged_form, judged_at, tree_form, tree_at}
 use Rattle.asm_sound.proofs.Scopes.{full, none_left, none_right, fails}

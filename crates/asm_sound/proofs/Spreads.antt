@@ -1,18 +1,18 @@
 -- Intervals by their bounds, and the ranges that they are.
-use Rattle.std.proofs.Common.{◌≡◌, ℕ, ◌^◌, ◌≤◌, ◌⊎◌, inl, inr, ℤ, pos, negsuc, neg_ℤ, ◌+ℤ◌, ◌-ℤ◌, ◌*ℤ◌, ◌≤ℤ◌, unsigned_abs, max, Bool as Truth, true, false, true≢false, ◌||◌, if◌then◌else◌, refl, sym, ap, subst, ◌∙◌, arith}
+use Rattle.std.proofs.Common.{◌≡◌, ℕ, ◌^◌, inl, inr, ℤ, pos, neg_ℤ, ◌+ℤ◌, ◌-ℤ◌, ◌*ℤ◌, ◌≤ℤ◌, unsigned_abs, max, Bool as Truth, true, false, true≢false, ◌||◌, if◌then◌else◌, refl, sym, ap, subst, arith}
 use Rattle.std.specs.Prelude.{int_le}
 use Rattle.std.specs.Int.{int_min, int_max}
 use Rattle.std.proofs.Math.IntN.{*ℤ_comm}
 use Rattle.std.proofs.lemmas.Int.{ints, clamps, by_lt_z}
 use Rattle.std.proofs.lemmas.Bool.{ltb-false}
 use Rattle.asm_domain.specs.declared.interval.Interval.{Interval}
-use Rattle.asm_domain.specs.Interval.{IsWithin, IsResult, Spans}
+use Rattle.asm_domain.specs.Interval.{IsWithin, IsResult}
 use Rattle.asm_domain.specs.Narrow.{IsNarrow}
 use Rattle.asm_domain.proofs.Spanning.{AreBounds, low_of, high_of, sums, differences, lesser, greater, both, opposites}
 use Rattle.asm_domain.proofs.Products.{multiples_up, multiples_down}
 use Rattle.asm_domain.proofs.Sizes as sized
 use Rattle.asm_domain.proofs.Sizes.{size_above, size_below, size_across}
-use Rattle.asm_node.specs.Ranges.{Range, NoNumber, From, Numbers, numbers_in, IsRangeOf, IsNarrowRange, results, results_of_one, sizes, numbers_in_either, of_one, of_two}
+use Rattle.asm_node.specs.Ranges.{Range, NoNumber, From, Numbers, IsRangeOf, IsNarrowRange, results, results_of_one, sizes, numbers_in_either, of_one, of_two}
 use Rattle.asm_tree.specs.declared.operator.Op.{Op}
 use Rattle.asm_tree.specs.declared.operator.Op.TheVariants as op
 use Rattle.asm_tree.specs.declared.operator.UnaryOp.{UnaryOp}

@@ -13,8 +13,8 @@ pub fn checks_are_sound()
 {}
 
 /// Where the check has no fault, the model that the files are is well formed, whatever numbers its variables have: it is
-/// all that evaluation relies on, so the interval of each of its integer terms is known too. The domains have to be fewer
-/// than the number that stands for the whole numbers.
+/// all that evaluation relies on, so the interval of each of its integer terms is known too. There may be no more domains
+/// than the number that stands for the whole numbers says.
 pub fn checked_is_well_formed()
     ensures { CheckedIsWellFormed }
 {}

@@ -35,7 +35,7 @@ impl Maker {
     }
 
     /// Where further nodes take their memory.
-    pub fn alloc(&self) -> Global {
+    pub(crate) fn alloc(&self) -> Global {
         self.alloc
     }
 

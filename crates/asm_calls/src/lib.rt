@@ -1,5 +1,4 @@
-//! Who calls whom in a model, and what is wrong with that: cycles and long chains of definitions and of rules, and reads
-//! of functions that may not be read.
+//! The numbers of the functions that terms read and of the rules that rules call.
 #![tactic(auto)]
 
 mod called;

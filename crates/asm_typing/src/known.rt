@@ -51,7 +51,7 @@ impl<'a> Known<'a> {
     }
 
     /// Where more tables take their memory.
-    pub fn alloc(&self) -> Global {
+    pub(crate) fn alloc(&self) -> Global {
         self.alloc
     }
 

@@ -1,3 +1,12 @@
+mod Agreeing
+mod Calling
+mod Chaining
+mod Gathering
+mod Graphing
+mod Marking
 mod Numbering
+mod Placing
+mod Reading
+mod Rows
 mod RuleForms
 mod TermForms

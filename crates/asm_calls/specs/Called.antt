@@ -1,5 +1,7 @@
--- What terms and rules call, by numbers.
-use Rattle.std.specs.Prelude.{ℕ, List, ◌++◌}
+-- What terms read and rules call, by numbers.
+use Rattle.std.specs.Prelude.{ℕ, List, ◌++◌, Option, Some, None}
+use Rattle.std.specs.List.{flat_map}
+use Rattle.asm_sign.specs.declared.function.Function.{Function}
 use Rattle.asm_sign.specs.Vocabulary.{Vocabulary}
 use Rattle.asm_tree.specs.declared.term.RawTerm.{RawTerm, RawTerm-F}
 use Rattle.asm_tree.specs.declared.term.RawTermKind.{RawTermKind, fold-RawTermKind}
@@ -13,7 +15,23 @@ use Rattle.asm_tree.specs.declared.rule.RawRuleCase.{RawRuleCase, fold-RawRuleCa
 use Rattle.name_table.specs.Numbered.{number_of}
 use Rattle.asm_faults.specs.At.{Name}
 use Rattle.asm_faults.specs.Calls.{Names, numbers_of, called, called_kind, called_rules, called_rules_kind}
-use Rattle.asm_faults.specs.Terms.{function_place}
+use Rattle.asm_faults.specs.Files.{to_list}
+use Rattle.asm_faults.specs.Terms.{function_place, function_named}
+use Rattle.asm_calls.specs.declared.read.Read.{Read}
+
+-- ---- what is found of names
+
+-- what is found of those names of which something is
+abbrev pub found_of : {A : Type 0} → (Name → Option A) → Names → List A
+found_of find names = flat_map (λ name. to_list (find name)) names
+
+abbrev pub read_at : Option ℕ → Option Function → Option Read
+read_at (Some number) (Some f) = Some (record { number = number; kind = f.kind })
+read_at _ _ = None
+
+-- a function of the vocabulary, by its name
+abbrev pub read_of : Vocabulary → Name → Option Read
+read_of v name = read_at (function_place v name) (function_named v name)
 
 -- ---- functions that are read
 
@@ -35,18 +53,18 @@ bind_called = fold-RawBind Names Names Names Names called_kind bind_step case_st
 abbrev pub case_called : RawCase → Names
 case_called = fold-RawCase Names Names Names Names called_kind bind_step case_step term_step
 
--- the numbers of the functions that a term reads itself
-unfoldable pub functions_in : Vocabulary → RawTerm → List ℕ
-functions_in v t = numbers_of (function_place v) (called t)
+-- the functions that a term reads itself
+unfoldable pub functions_in : Vocabulary → RawTerm → List Read
+functions_in v t = found_of (read_of v) (called t)
 
-unfoldable pub functions_of_kind : Vocabulary → RawTermKind → List ℕ
-functions_of_kind v k = numbers_of (function_place v) (kind_called k)
+unfoldable pub functions_of_kind : Vocabulary → RawTermKind → List Read
+functions_of_kind v k = found_of (read_of v) (kind_called k)
 
-unfoldable pub functions_in_bind : Vocabulary → RawBind → List ℕ
-functions_in_bind v b = numbers_of (function_place v) (bind_called b)
+unfoldable pub functions_in_bind : Vocabulary → RawBind → List Read
+functions_in_bind v b = found_of (read_of v) (bind_called b)
 
-unfoldable pub functions_in_case : Vocabulary → RawCase → List ℕ
-functions_in_case v c = numbers_of (function_place v) (case_called c)
+unfoldable pub functions_in_case : Vocabulary → RawCase → List Read
+functions_in_case v c = found_of (read_of v) (case_called c)
 
 -- ---- rules that are called
 

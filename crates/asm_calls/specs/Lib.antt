@@ -1,1 +1,4 @@
 pub mod Called
+pub mod Callers
+pub mod Graphs
+pub mod Reads

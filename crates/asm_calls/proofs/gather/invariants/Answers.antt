@@ -1,0 +1,8 @@
+use Rattle.std.proofs.Common.{◌∙◌}
+use Rattle.asm_faults.specs.Files.{invariant_in}
+use Rattle.asm_calls.specs.Callers.{invariant_caller, definitions_from}
+use Rattle.asm_calls.proofs.Gathering.{map-flat_map}
+use Rattle.asm_calls.proofs.gather.invariants.Goals as goal
+
+pub returns : goal.returns
+returns c = c.in_ok-callers.ensures ∙ map-flat_map (invariant_caller c.args.known.now) invariant_in (definitions_from 0 c.args.units.now)

@@ -1,3 +1,4 @@
 pub mod Entered
 pub mod Measures
+pub mod Numbers
 pub mod Targets

@@ -1,15 +1,18 @@
-//! What is wrong with the names and the domains that files declare.
+//! What is wrong with the names and the domains that files declare, and the lists of their signature.
 #![tactic(auto)]
 
 mod defining;
 mod enter;
+mod listing;
 mod measure;
 mod measuring;
 mod naming;
+mod numbers;
 mod passes;
 mod standing;
 mod tables;
 mod targets;
 
+pub use listing::function_list;
 pub use naming::names;
 pub use passes::domains;

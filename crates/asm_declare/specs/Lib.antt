@@ -1,4 +1,5 @@
 pub mod Entered
+pub mod Locations
 pub mod Measures
 pub mod Numbers
 pub mod Targets

@@ -4,10 +4,12 @@
 mod defining;
 mod enter;
 mod listing;
+mod locations;
 mod measure;
 mod measuring;
 mod naming;
 mod numbers;
+mod own;
 mod passes;
 mod standing;
 mod tables;
@@ -15,4 +17,4 @@ mod targets;
 
 pub use listing::function_list;
 pub use naming::names;
-pub use passes::domains;
+pub use passes::{domains, functions};

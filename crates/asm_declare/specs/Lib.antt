@@ -3,3 +3,4 @@ pub mod Locations
 pub mod Measures
 pub mod Numbers
 pub mod Targets
+pub mod Told

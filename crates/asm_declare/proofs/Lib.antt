@@ -1,5 +1,10 @@
+pub mod Building
 pub mod Counting
 pub mod Entering
+pub mod Locating
+pub mod Making
+pub mod Owning
+pub mod Seeking
 pub mod Sizing
 pub mod Targeting
 pub mod Walks

@@ -61,7 +61,7 @@ fn one_more(count: u32, more: bool) -> u32
 }
 
 /// Whether a declaration is that of a constant of a domain.
-fn is_constant(declaration: &RawDeclaration, domain: &Name) -> bool
+pub fn is_constant(declaration: &RawDeclaration, domain: &Name) -> bool
     ensures { (number : ℕ) → length (filter (is_constant_of domain.now) (function_in (number, declaration.now))) ≡ (if result then 1 else 0) }
 {
     match declaration {

@@ -1,3 +1,5 @@
 pub mod Growing
 pub mod Nesting
+pub mod RuleForms
+pub mod RuleGrowing
 pub mod TreeForms

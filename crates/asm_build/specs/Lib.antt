@@ -1,3 +1,5 @@
+pub mod Added
+pub mod Assembled
 pub mod Forms
 pub mod Made
 pub mod MadeRules

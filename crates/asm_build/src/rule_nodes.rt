@@ -273,3 +273,12 @@ fn make(maker: &mut Maker, kind: RuleKind) -> Result<Rc<Rule>, AllocError>
 {
     Ok(maker.pool.rule(kind)?)
 }
+
+/// A node for the rule that does nothing, where no file has a main rule.
+pub(crate) fn no_rule(maker: &mut Maker) -> Result<Rc<Rule>, AllocError>
+    ensures pool { IfOk result (λ r. HasRule (rules_of maker.new.pool) r.value) }
+    ensures tree { IfOk result (λ r. plain_rule r.value ≡ tree.Skip (record { file = 0; at = 0 })) }
+    ensures grown { IfOk result (λ r. HasGrown maker.old maker.new) }
+{
+    Ok(make(maker, RuleKind::Skip(Place { file: 0, at: 0 }))?)
+}

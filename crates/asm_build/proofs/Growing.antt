@@ -19,7 +19,7 @@ use Rattle.asm_faults.specs.At.{Name}
 use Rattle.asm_build.specs.declared.maker.Maker.{Maker}
 use Rattle.asm_build.specs.Made.{Agrees, HasGrown, Numbered, IsTerm, AreTerms, AreNumbers, AreBinders}
 
-append_none : {A : Type 0} (xs : List A) → xs ≡ xs ++ []
+pub append_none : {A : Type 0} (xs : List A) → xs ≡ xs ++ []
 append_none [] = refl
 append_none (x ∷ xs) = λ i. x ∷ append_none xs i
 

@@ -1,3 +1,10 @@
+pub mod Adding
+pub mod Assembling
+pub mod Gathering
 pub mod Growing
 pub mod Nesting
+pub mod Numbering
+pub mod RuleForms
+pub mod RuleGrowing
 pub mod TreeForms
+pub mod Walks

@@ -39,6 +39,18 @@ impl Maker {
         self.alloc
     }
 
+    /// The nodes that were made.
+    pub(crate) fn into_pool(self) -> Pool
+        ensures { result ≡ self.pool }
+    {
+        let Maker {
+            alloc: _,
+            pool,
+            variables: _,
+        } = self;
+        pool
+    }
+
     /// The number of a variable, which gets one where it has none.
     pub fn variable(&mut self, name: &Name) -> Result<u32, AllocError>
         ensures number { IfOk result (λ k. number_of self.new.variables name.now ≡ Some k) }

@@ -84,7 +84,7 @@ fn variable(maker: &mut Maker, name: &Name) -> Result<Rc<Term>, AllocError>
     Ok(make(maker, TermKind::Var(number))?)
 }
 
-fn function_number(known: &Known, name: &Name) -> u32
+pub(crate) fn function_number(known: &Known, name: &Name) -> u32
     ensures { (number : List ℕ → ℕ) → result ≡ model.function_number number known.now name.now }
 {
     known.function_number(name).unwrap_or(0)
@@ -190,13 +190,17 @@ fn one_case(
 
 /// The variables of a `let` and their terms, in their order.
 #[derive(Drop)]
-struct Bounds {
-    variables: Listed<u32>,
-    terms: Terms,
+pub(crate) struct Bounds {
+    pub variables: Listed<u32>,
+    pub terms: Terms,
 }
 
 #[cycle(term)]
-fn bounds_of(maker: &mut Maker, known: &Known, items: &[RawBind]) -> Result<Bounds, AllocError>
+pub(crate) fn bounds_of(
+    maker: &mut Maker,
+    known: &Known,
+    items: &[RawBind],
+) -> Result<Bounds, AllocError>
     ensures variables { IfOk result (λ bounds. AreNumbers maker.new (λ number. map (λ (b : RawBind). number b.variable.text) items.now) bounds.variables) }
     ensures terms { IfOk result (λ bounds. AreTerms maker.new (λ number. map (λ (b : RawBind). model.tree_of number known.now b.term) items.now) bounds.terms) }
     ensures same { IfOk result (λ bounds. length bounds.variables ≡ length bounds.terms) }
@@ -257,14 +261,14 @@ fn domain_number(known: &Known, name: &Name) -> u32
     known.domain(name).unwrap_or(u32::MAX)
 }
 
-fn node_at(nodes: &[Rc<Term>], place: usize) -> &Rc<Term>
+pub(crate) fn node_at(nodes: &[Rc<Term>], place: usize) -> &Rc<Term>
     requires { place < length nodes.now }
     ensures { slice_get nodes.now place ≡ Some result.now }
 {
     &nodes[place]
 }
 
-fn number_at(numbers: &[u32], place: usize) -> u32
+pub(crate) fn number_at(numbers: &[u32], place: usize) -> u32
     requires { place < length numbers.now }
     ensures { slice_get numbers.now place ≡ Some result }
 {
@@ -281,7 +285,7 @@ fn operation_of_one(maker: &mut Maker, op: Op, operand: Rc<Term>) -> Result<Rc<T
     Ok(make(maker, TermKind::Oper(op, operands))?)
 }
 
-fn operation(
+pub(crate) fn operation(
     maker: &mut Maker,
     op: Op,
     left: Rc<Term>,

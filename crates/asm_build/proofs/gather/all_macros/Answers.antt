@@ -1,0 +1,20 @@
+use Rattle.std.proofs.Common.{List, map, refl, ap, flat_map}
+use Rattle.asm_tree.specs.declared.unit.RawUnit.{RawUnit}
+use Rattle.asm_tree.specs.declared.unit.LoadedUnit.{LoadedUnit}
+use Rattle.asm_faults.specs.Files.{rule_in, all_of}
+use Rattle.asm_faults.specs.Model.{macro_of}
+use Rattle.asm_build.proofs.Growing.{took_all}
+use Rattle.asm_build.proofs.Gathering.{mapped_units, file_is}
+use Rattle.asm_build.proofs.Adding.{added_none, added_same, macros_on}
+use Rattle.asm_build.proofs.gather.all_macros.Goals as goal
+
+pub units-init : goal.units-init
+units-init c = added_none c.args.maker.now _ c.args.rules.now (λ number. refl)
+
+pub units-preserved : goal.units-preserved
+units-preserved c = added_same _ _ (λ number.
+    mapped_units (macro_of number c.args.known.now c.args.units.now) rule_in (λ (u : RawUnit). u.definitions) c.args.units.now c.units.unit-index c.unit-item.result c.slice.result.now c.units-test.true c.unit-item.is c.slice.ensures)
+    (macros_on c.units.invariant (c.in_ok-add_macros.ensures c.args.units.now c.units.unit-index c.requires (file_is c.args.units.now c.units.unit-index c.unit-item.result c.units-test.true c.unit-item.is)))
+
+pub returns : goal.returns
+returns c = added_same _ _ (λ number. ap (λ (us : List LoadedUnit). map (macro_of number c.args.known.now c.args.units.now) (flat_map rule_in (all_of (λ (u : RawUnit). u.definitions) us))) (took_all c.args.units.now c.units.unit-index c.units-test.false)) c.units.invariant

@@ -1,5 +1,6 @@
-pub mod Firsts
 pub mod Forms
 pub mod Lookups
+pub mod RuleForms
+pub mod RuleSteps
 pub mod Scopes
 pub mod Steps

@@ -1,4 +1,4 @@
 pub mod Bound
 pub mod Heads
 pub mod Pieces
-pub mod Tables
+pub mod RulePieces

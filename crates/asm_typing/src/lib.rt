@@ -2,15 +2,14 @@
 #![tactic(auto)]
 
 mod binders;
-mod elements;
+mod domains;
 mod heads;
 mod kind;
-mod known;
 mod note;
+pub mod rule;
 mod scope;
 pub mod term;
 
 pub use binders::{binder_faults, within};
 pub use heads::{Heads, Types};
-pub use known::Known;
 pub use scope::Scope;

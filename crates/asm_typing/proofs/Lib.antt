@@ -1,5 +1,10 @@
-pub mod Firsts
+pub mod Acting
+pub mod BodyParts
 pub mod Forms
 pub mod Lookups
+pub mod Wanting
+pub mod RuleForms
+pub mod RuleSteps
 pub mod Scopes
 pub mod Steps
+pub mod Walks

@@ -32,6 +32,11 @@ pub each_step : {X : Type 0} (f : X → List Fault) (xs : List X) (i : ℕ) (d :
     → noted first (flat_map f (drop i xs)) ≡ noted (noted first (f (get_or xs i d))) (flat_map f (drop (i + 1) xs))
 each_step f xs i d first h = rw (add-one, drop-cons xs i d) (noted_append first (f (get_or xs i d)) (flat_map f (drop (suc i) xs)))
 
+-- the same step with the item as code has it
+pub each_next : {X : Type 0} (f : X → List Fault) (xs : List X) (i : ℕ) (x : X) (first : Option Fault) → i < length xs → x ≡ get_or xs i x
+    → noted (noted first (f x)) (flat_map f (drop (i + 1) xs)) ≡ noted first (flat_map f (drop i xs))
+each_next {X} f xs i x first h e = ap (λ (y : X). noted (noted first (f y)) (flat_map f (drop (i + 1) xs))) e ∙ sym (each_step f xs i x first h)
+
 pub repeats_step : {X : Type 0} (n : ℕ) (f : X → RawName) (xs : List X) (i : ℕ) (d : X) (seen : List (List ℕ)) (first : Option Fault) → i < length xs
     → noted first (repeats seen (map (λ x. (n, f x)) (drop i xs)))
     ≡ noted (noted first (if is_listed seen (f (get_or xs i d)).text then fault_at Duplicate n (f (get_or xs i d)) ∷ [] else [])) (repeats (seen ++ (f (get_or xs i d)).text ∷ []) (map (λ x. (n, f x)) (drop (i + 1) xs)))
@@ -42,6 +47,10 @@ repeats_step n f xs i d seen first h =
 -- three lists, one after the other
 pub noted_three : (first : Option Fault) (xs ys zs : List Fault) → noted first (xs ++ (ys ++ zs)) ≡ noted (noted (noted first xs) ys) zs
 noted_three first xs ys zs = noted_append first xs (ys ++ zs) ∙ noted_append (noted first xs) ys zs
+
+-- two lists, and then a third one
+pub noted_two : (first : Option Fault) (xs ys zs : List Fault) → noted first (xs ++ (ys ++ zs)) ≡ noted (noted first (xs ++ ys)) zs
+noted_two first xs ys zs = ap (noted first) (sym (append_assoc xs ys zs)) ∙ noted_append first (xs ++ ys) zs
 
 -- ---- results
 
@@ -68,13 +77,13 @@ first_type_append s (j ∷ js) ks = ap (or_else (j.type s)) (first_type_append s
 pub first_type_last : (s : Scope) (js : List Judged) (k : Judged) → first_type s (js ++ k ∷ []) ≡ or_else (first_type s js) (k.type s)
 first_type_last s js k = first_type_append s js (k ∷ []) ∙ ap (or_else (first_type s js)) (or_else-none (k.type s))
 
-head_of : {X : Type 0} (xs : List X) (i : ℕ) → slice_get (drop i xs) 0 ≡ slice_get xs i
+pub head_of : {X : Type 0} (xs : List X) (i : ℕ) → slice_get (drop i xs) 0 ≡ slice_get xs i
 head_of [] zero = refl
 head_of [] (suc i) = refl
 head_of (x ∷ xs) zero = refl
 head_of (x ∷ xs) (suc i) = head_of xs i
 
-tail_of : {X : Type 0} (xs : List X) (i : ℕ) → drop 1 (drop i xs) ≡ drop (suc i) xs
+pub tail_of : {X : Type 0} (xs : List X) (i : ℕ) → drop 1 (drop i xs) ≡ drop (suc i) xs
 tail_of [] zero = refl
 tail_of [] (suc i) = refl
 tail_of (x ∷ xs) zero = refl

@@ -1,4 +1,6 @@
+pub mod BodyPieces
 pub mod Bound
+pub mod Given
 pub mod Heads
 pub mod Pieces
-pub mod Tables
+pub mod RulePieces

@@ -12,10 +12,9 @@ ghost use Rattle.asm_faults.specs.FunctionFaults as function_faults;
 ghost use Rattle.asm_faults.specs.Terms as terms;
 ghost use Rattle.asm_faults.specs.Terms.{variables_of};
 
-use crate::known::Known;
 use crate::note::{note_if, see};
 use crate::scope::Scope;
-use asm_faults::{First, ModelFault};
+use asm_faults::{First, Known, ModelFault};
 use asm_tree::term::{RawBinder, RawName};
 use name_table::Table;
 use std::alloc::AllocError;

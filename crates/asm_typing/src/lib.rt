@@ -2,15 +2,22 @@
 #![tactic(auto)]
 
 mod binders;
-mod elements;
+mod body_pass;
+mod collecting;
+mod domains;
+mod functions;
+mod given;
 mod heads;
 mod kind;
-mod known;
+mod missing_pass;
 mod note;
+mod parts;
+pub mod rule;
 mod scope;
 pub mod term;
 
 pub use binders::{binder_faults, within};
+pub use body_pass::bodies;
 pub use heads::{Heads, Types};
-pub use known::Known;
+pub use missing_pass::missing;
 pub use scope::Scope;

@@ -11,11 +11,11 @@ ghost use Rattle.asm_faults.specs.Terms.{judged, bound_type, joined, function_na
 ghost use Rattle.asm_typing.specs.Pieces.{terms_judged, binds_judged, cases_judged, cases_before, variables_bound};
 
 use crate::binders::{binder_faults, infinite_faults, within};
+use crate::domains::domain_types;
 use crate::kind::{asks, gives, unary_asks, unary_gives};
-use crate::known::Known;
 use crate::note::{arity, mismatch, see};
 use crate::scope::Scope;
-use asm_faults::{First, ModelFault};
+use asm_faults::{First, Known, ModelFault};
 use asm_list::Name;
 use asm_node::TermType;
 use asm_tree::term::{RawBind, RawBinder, RawCase, RawTerm, RawTermKind};
@@ -195,7 +195,7 @@ fn call(
 {
     match known.function(name) {
         Some(function) => {
-            let types = known.domain_types(function.domains.slice())?;
+            let types = domain_types(known, function.domains.slice())?;
             arity(first, unit, at, name, function.domains.len(), items.len())?;
             asked_each(known, unit, scope, first, types.slice(), items)?;
             Ok(known.domain_type(function.codomain))

@@ -1,7 +1,0 @@
-use Rattle.std.proofs.Common.{◌≡◌, take}
-use Rattle.std.specs.Prelude.{map}
-use Rattle.asm_node.specs.Types.{domain_type}
-use Rattle.asm_typing.proofs.known.Known.domain_types.Given as goal
-
-abbrev pub invariant-domains : goal.invariant-domains
-invariant-domains l = l.list ≡ map (domain_type l.self.domains) (take l.domain-index l.domains)

@@ -6,8 +6,6 @@ use Rattle.std.proofs.lemmas.List.FromFn.{map-range_with_len_more}
 use Rattle.std.proofs.lemmas.Bool.Decides.{Decides-eqb}
 use Rattle.call_graph.specs.declared.graph.Node.{Node}
 use Rattle.call_graph.specs.Calls.{no_node, calls_at, is_there, is_in, has_chain, leads, touches}
-use Rattle.call_graph.specs.Rows.{for_each}
-use Rattle.asm_calls.proofs.Rows.{in_row_of}
 
 -- ---- past the end
 
@@ -43,7 +41,7 @@ or_right : (a b : Bool) → b ≡ true → a || b ≡ true
 or_right true b h = refl
 or_right false b h = h
 
-any_more : (p q : ℕ → Bool) → ((c : ℕ) → p c ≡ true → q c ≡ true) → (xs : List ℕ) → list_any p xs ≡ true → list_any q xs ≡ true
+pub any_more : (p q : ℕ → Bool) → ((c : ℕ) → p c ≡ true → q c ≡ true) → (xs : List ℕ) → list_any p xs ≡ true → list_any q xs ≡ true
 any_more p q h [] e = e
 any_more p q h (x ∷ xs) e =
     elim (or_cases (p x) (list_any p xs) e) [
@@ -59,7 +57,7 @@ any_there g p n h =
     ] h
 
 -- a chain without its last node
-chain_less : (g : List Node) (k f : ℕ) → has_chain g (suc k) f ≡ true → has_chain g k f ≡ true
+pub chain_less : (g : List Node) (k f : ℕ) → has_chain g (suc k) f ≡ true → has_chain g k f ≡ true
 unfolding has_chain
 chain_less g zero f h = refl
 chain_less g (suc zero) f h = any_there g (has_chain g 1) f h
@@ -82,15 +80,9 @@ unfolding has_chain
 cycle_chain g m f zero t = refl
 cycle_chain g m f (suc k) t = chain_before g m k f f t (cycle_chain g m f k t)
 
-no_cycle : (g : List Node) (k m f : ℕ) (b : Bool) → leads g m f f ≡ b → has_chain g k f ≡ false → false ≡ b
+pub no_cycle : (g : List Node) (k m f : ℕ) (b : Bool) → leads g m f f ≡ b → has_chain g k f ≡ false → false ≡ b
 no_cycle g k m f true e h = let chain = cycle_chain g m f k e in cc
 no_cycle g k m f false e h = refl
-
--- where no chain of 33 begins at a node, it doesn't lead to itself
-pub not_looping : (g : List Node) (row : List Bool) (n m : ℕ) → row ≡ for_each g (has_chain g 33) → is_in row n ≡ false → false ≡ leads g m n n
-not_looping g row n m e h =
-    no_cycle g 33 m n (leads g m n n) refl
-    (sym (in_row_of g (has_chain g 33) (λ i le. chain_past g 33 i (omega arith) le) n) ∙ ap (λ (r : List Bool). is_in r n) (sym e) ∙ h)
 
 -- ---- more calls than there are nodes
 

@@ -1,4 +1,5 @@
 mod Agreeing
+mod Bounding
 mod Calling
 mod Chaining
 mod Gathering

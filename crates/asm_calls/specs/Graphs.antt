@@ -57,6 +57,10 @@ reads_at reading definitions (Some place) = if_reads reading (slice_get definiti
 abbrev pub reads_row : Reading → List Caller → List (Option ℕ) → List Node → List Truth
 reads_row reading definitions places g = for_each g (touches g (map (reads_at reading definitions) places) 31)
 
+-- at a node that has `false` in the row no chain begins that is longer than some bound
+abbrev pub AreBounded : List Node → List Truth → Type 0
+AreBounded g row = (n : ℕ) → is_in row n ≡ false → (k : ℕ) × (has_chain g k n ≡ false)
+
 -- ---- faults
 
 -- whether a row has `true` at a number, if there is one

@@ -1,14 +1,15 @@
 //! The graphs of calls of a model.
 
 ghost use Rattle.std.specs.Prelude.{◌≡◌, ℕ, ◌≤◌, map, length, false, IfOk, Some, None};
-ghost use Rattle.call_graph.specs.Calls.{has_chain, leads, is_in};
+ghost use Rattle.call_graph.specs.Calls.{leads, is_in};
 ghost use Rattle.call_graph.specs.Rows.{for_each};
 ghost use Rattle.asm_faults.specs.Calls.{node_of};
-ghost use Rattle.asm_calls.specs.Graphs.{node_at};
+ghost use Rattle.asm_calls.specs.Graphs.{AreBounded, node_at};
 
 use crate::caller::Caller;
+use crate::endless::endless;
 use asm_list::Listed;
-use call_graph::{Graph, Node, chains, leads_to_itself};
+use call_graph::{Graph, Node, leads_to_itself};
 use std::alloc::{AllocError, Global};
 
 /// The longest chain of definitions or rules that is let through has one less.
@@ -74,7 +75,7 @@ fn missing(alloc: Global) -> Node
 pub fn looping(alloc: Global, graph: &Graph) -> Result<Listed<bool>, AllocError>
     ensures { IfOk result (λ row. (far : ℕ) → length graph.now ≤ far → row ≡ for_each graph.now (λ n. leads graph.now far n n)) }
 {
-    let long = chains(alloc, graph, TOO_LONG)?;
+    let long = endless(alloc, graph)?;
     let mut row = Listed::new(alloc);
     'nodes: for number in 0..graph.len() {
         let found = is_looping(alloc, graph, long.slice(), number)?;
@@ -83,14 +84,14 @@ pub fn looping(alloc: Global, graph: &Graph) -> Result<Listed<bool>, AllocError>
     Ok(row)
 }
 
-/// Whether a node leads to itself. Only nodes at which long chains begin may do so.
+/// Whether a node leads to itself. Only nodes at which chains begin that have no bound may do so.
 fn is_looping(
     alloc: Global,
     graph: &Graph,
     long: &[bool],
     number: usize,
 ) -> Result<bool, AllocError>
-    requires { long.now ≡ for_each graph.now (has_chain graph.now 33) }
+    requires { AreBounded graph.now long.now }
     ensures { IfOk result (λ found. (far : ℕ) → length graph.now ≤ far → found ≡ leads graph.now far number number) }
 {
     if !is_in(long, number) {

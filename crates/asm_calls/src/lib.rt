@@ -5,6 +5,7 @@
 mod call_pass;
 mod called;
 mod caller;
+mod endless;
 mod gather;
 mod graphs;
 mod marks;

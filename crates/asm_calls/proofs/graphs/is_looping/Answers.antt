@@ -1,5 +1,6 @@
 use Rattle.std.proofs.Common.{sym, ◌∙◌}
-use Rattle.asm_calls.proofs.Chaining.{not_looping, looping_far}
+use Rattle.asm_calls.proofs.Bounding.{not_looping}
+use Rattle.asm_calls.proofs.Chaining.{looping_far}
 use Rattle.asm_calls.proofs.graphs.is_looping.Goals as goal
 
 pub returns-then-not-is_in : goal.returns-then-not-is_in

@@ -1,0 +1,5 @@
+use Rattle.asm_calls.specs.Graphs.{AreBounded}
+use Rattle.asm_calls.proofs.endless.forwards.Given as goal
+
+abbrev pub invariant-nodes : goal.invariant-nodes
+invariant-nodes l = AreBounded l.graph l.row.items

@@ -4,7 +4,9 @@ pub mod Elements
 pub mod Ends
 pub mod Forms
 pub mod Lookups
+pub mod Parts
 pub mod RuleForms
 pub mod RuleSteps
 pub mod Scopes
 pub mod Steps
+pub mod Walks

@@ -41,6 +41,11 @@ impl<'a> Intervals<'a> {
         Ok(Intervals { known, spreads })
     }
 
+    /// Where scopes take their memory.
+    pub(crate) fn alloc(&self) -> Global {
+        self.known.alloc()
+    }
+
     /// The interval of the domain of a number.
     fn domain(&self, number: u32) -> Spread
         ensures { bounds_of result ≡ domain_spread self.now.domains number }

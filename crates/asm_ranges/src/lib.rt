@@ -2,12 +2,14 @@
 #![tactic(auto)]
 
 mod domain;
+mod files;
 mod intervals;
 mod rule;
 mod scope;
 mod spread;
 mod term;
 
+pub use files::ranges;
 pub use intervals::Intervals;
 pub use scope::Scope;
 pub use spread::Spread;

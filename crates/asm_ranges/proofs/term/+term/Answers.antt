@@ -1,6 +1,5 @@
-use Rattle.std.proofs.Common.{pos, ◌≡◌, ℕ, ◌+◌, ℤ, to_z, of_z, w64, List, [], ◌∷◌, ◌++◌, drop, take, Option, refl, sym, ap, subst, ◌∙◌, arith}
+use Rattle.std.proofs.Common.{pos, ◌≡◌, ℕ, ◌+◌, List, [], ◌∷◌, ◌++◌, drop, take, Option, refl, sym, ap, subst, ◌∙◌}
 use Rattle.std.specs.Prelude.{IfOk, OnOk}
-use Rattle.std.proofs.lemmas.Int.{ints}
 use Rattle.asm_sign.specs.Vocabulary.{Vocabulary}
 use Rattle.asm_tree.specs.declared.term.RawCase.{RawCase}
 use Rattle.asm_tree.specs.declared.term.RawTerm.{RawTerm}

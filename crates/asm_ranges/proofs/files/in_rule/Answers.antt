@@ -1,0 +1,17 @@
+use Rattle.std.proofs.Common.{refl, sym}
+use Rattle.asm_ranges.proofs.files.in_rule.Goals as goal
+
+pub returns-in-Range : goal.returns-in-Range
+returns-in-Range c = rw c.in-Range.is refl
+
+pub returns-in-List : goal.returns-in-List
+returns-in-List c = rw c.in-List.is refl
+
+pub returns-in-Function : goal.returns-in-Function
+returns-in-Function c = rw c.in-Function.is refl
+
+pub returns-in-Rule : goal.returns-in-Rule
+returns-in-Rule c = let h = c.macro_rule.ensures in rw (c.in-Rule.is, sym c.slice.ensures) h
+
+pub returns-in-Invariant : goal.returns-in-Invariant
+returns-in-Invariant c = rw c.in-Invariant.is refl

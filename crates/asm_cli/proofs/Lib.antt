@@ -1,4 +1,5 @@
 pub mod Answering
+mod Checking
 pub mod Loaded
 pub mod Models
 pub mod Numbers

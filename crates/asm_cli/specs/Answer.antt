@@ -14,8 +14,12 @@ use Rattle.boolean_run.specs.Printed.{run_of}
 use Rattle.asm_unit.specs.Path.{normalised}
 use Rattle.asm_unit.specs.declared.error.LoadError.{LoadError}
 use Rattle.asm_unit.specs.Loading.{Outcome, units_in, unit_in}
-use Rattle.asm_cli.specs.Fault.{fault_text}
-use Rattle.asm_cli.specs.Words.{Asked, ToRun, ToFormat, asked_of}
+use Rattle.asm_faults.specs.declared.fault.Fault.{Fault}
+use Rattle.asm_faults.specs.Check.{model_fault}
+use Rattle.asm_resolve.specs.Resolved.{file_of}
+use Rattle.asm_cli.specs.Counts.{counts_of, counts_text}
+use Rattle.asm_cli.specs.Fault.{fault_text, model_fault_text}
+use Rattle.asm_cli.specs.Words.{Asked, ToRun, ToFormat, ToCheck, asked_of}
 
 -- ---- models
 
@@ -70,6 +74,15 @@ says_units name steps sources units text code = says_machine name steps sources 
 abbrev pub says_canonical : List Source → RawUnit → Saying
 says_canonical sources unit text code = SaysBytes (canonical unit) 0 text code
 
+-- the line of the first fault of a model, or its counts where there is none
+abbrev pub says_faulted : List Source → List LoadedUnit → Option Fault → Saying
+says_faulted sources units None text code = Says (counts_text (counts_of units)) 0 text code
+says_faulted sources units (Some f) text code = Says (model_fault_text sources f.kind f.name (record { file = file_of units f.unit; at = f.at })) 3 text code
+
+-- what the check of a model finds
+abbrev pub says_checked : List Source → List LoadedUnit → Saying
+says_checked sources units text code = says_faulted sources units (model_fault units) text code
+
 -- what `says` says of these files and what they are, or the line of the first fault of a file
 abbrev pub says_end : {A : Type 0} → (List Source → A → Saying) → List Source → Result A LoadError → Saying
 says_end says sources (Ok value) text code = says sources value text code
@@ -79,10 +92,11 @@ says_end says sources (Err fault) text code = Says (fault_text sources fault) 3 
 abbrev pub says_outcome : {A : Type 0} → (List Source → A → Saying) → Outcome A → Saying
 says_outcome says o text code = says_end says o.sources o.end text code
 
--- what a command prints over these files: the run of a model, or the canonical text of one file
+-- what a command prints over these files: the run of a model, the canonical text of one file, or what the check of a model finds
 abbrev pub says_task : Asked → Files → Saying
 says_task (ToRun model steps) files text code = says_outcome (says_units (normalised model) steps) (loaded files model) text code
 says_task (ToFormat model) files text code = says_outcome says_canonical (alone files model) text code
+says_task (ToCheck model) files text code = says_outcome says_checked (loaded files model) text code
 
 abbrev pub says_asked : Option Asked → Files → Saying
 says_asked None files text code = Says (codes "asmeta: bad arguments") 2 text code
@@ -102,6 +116,7 @@ OneAnswer = (words : List (List ℕ)) (files : Files) (t u : List ℕ) (k l : �
 abbrev pub IsFirstFault : Asked → Files → LoadError → Type 0
 IsFirstFault (ToRun model steps) files fault = (loaded files model).end ≡ Err fault
 IsFirstFault (ToFormat model) files fault = (alone files model).end ≡ Err fault
+IsFirstFault (ToCheck model) files fault = (loaded files model).end ≡ Err fault
 
 -- a file that the command reads has a fault
 pub record IsRefused (words : List (List ℕ)) (files : Files) : Type 0 where
@@ -119,8 +134,18 @@ pub record IsNotBuilt (words : List (List ℕ)) (files : Files) : Type 0 where
   pub units_are : (loaded files model).end ≡ Ok units
   pub no_machine : machine_of_units units ≡ None
 
+-- something is wrong with the model to check
+pub record IsFaulty (words : List (List ℕ)) (files : Files) : Type 0 where
+  pub model : List ℕ
+  pub units : List LoadedUnit
+  pub fault : Fault
+  pub asked_is : asked_of words ≡ Some (ToCheck model)
+  pub units_are : (loaded files model).end ≡ Ok units
+  pub fault_is : model_fault units ≡ Some fault
+
+-- a file has a fault, a model has one, or it can't be run yet
 abbrev pub HasFileFault : List (List ℕ) → Files → Type 0
-HasFileFault words files = IsRefused words files ⊎ IsNotBuilt words files
+HasFileFault words files = IsRefused words files ⊎ (IsFaulty words files ⊎ IsNotBuilt words files)
 
 -- the run of the model that the words name ends so
 pub record EndsIn (words : List (List ℕ)) (files : Files) (end : RunEnd) : Type 0 where
@@ -140,9 +165,17 @@ pub record IsFormatted (words : List (List ℕ)) (files : Files) : Type 0 where
   pub asked_is : asked_of words ≡ Some (ToFormat model)
   pub unit_is : (alone files model).end ≡ Ok unit
 
--- the run makes all its steps, or the file to format is a unit
+-- nothing is wrong with the model to check
+pub record IsFaultless (words : List (List ℕ)) (files : Files) : Type 0 where
+  pub model : List ℕ
+  pub units : List LoadedUnit
+  pub asked_is : asked_of words ≡ Some (ToCheck model)
+  pub units_are : (loaded files model).end ≡ Ok units
+  pub no_fault : model_fault units ≡ None
+
+-- the run makes all its steps, the file to format is a unit, or nothing is wrong with the model to check
 abbrev pub IsDone : List (List ℕ) → Files → Type 0
-IsDone words files = EndsIn words files Done ⊎ IsFormatted words files
+IsDone words files = EndsIn words files Done ⊎ (IsFormatted words files ⊎ IsFaultless words files)
 
 -- the run ends in a stop
 abbrev pub IsStopped : List (List ℕ) → Files → Type 0

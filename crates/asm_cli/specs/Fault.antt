@@ -1,4 +1,4 @@
--- What is printed of a file's fault.
+-- What is printed of a fault of a file or of a model.
 use Rattle.std.specs.Prelude.{ℕ, List, [], ◌++◌, drop, take_while, slice_get, codes}
 use Rattle.asm_io.specs.declared.sources.Source.{Source}
 use Rattle.asm_io.specs.declared.sources.Place.{Place}
@@ -8,6 +8,8 @@ use Rattle.asm_lex.specs.declared.error.LexError.{LexError}
 use Rattle.asm_lex.specs.declared.error.LexError.TheVariants as lex
 use Rattle.asm_tree.specs.declared.error.ParseError.{ParseError}
 use Rattle.asm_tree.specs.declared.error.ParseError.TheVariants as parse
+use Rattle.asm_faults.specs.declared.fault.ModelFault.{ModelFault}
+use Rattle.asm_faults.specs.declared.fault.ModelFault.TheVariants.{Duplicate, Unknown, WrongKind, WrongArity, WrongType, Unbound, EmptyDomain, DomainTooLarge, TooManyLocations, NoDefinition, NoMain, NoInit, Cycle, CallsTooDeep, ForbiddenRead, RangeTooWide}
 use Rattle.boolean_run.specs.Printed.{file_name, spot_text}
 use Rattle.asm_unit.specs.declared.error.LoadError.{LoadError}
 use Rattle.asm_unit.specs.declared.error.LoadError.TheVariants.{Absent, TooLong, Read, Lex, Parse, ImportCycle, TooManyFiles, Memory}
@@ -42,3 +44,26 @@ fault_text sources (Parse place e) = place_text sources place ++ parse_message (
 fault_text sources (ImportCycle name) = name ++ codes ": import cycle"
 fault_text sources (TooManyFiles name) = name ++ codes ": too many files"
 fault_text sources Memory = []
+
+-- what is said of a fault of a model, before the text of its token
+abbrev pub model_message : ModelFault → List ℕ
+model_message Duplicate = codes ": declared twice: "
+model_message Unknown = codes ": unknown name: "
+model_message WrongKind = codes ": wrong kind: "
+model_message WrongArity = codes ": wrong number of arguments: "
+model_message WrongType = codes ": wrong type: "
+model_message Unbound = codes ": unbound variable: "
+model_message EmptyDomain = codes ": empty domain: "
+model_message DomainTooLarge = codes ": domain too large: "
+model_message TooManyLocations = codes ": too many locations: "
+model_message NoDefinition = codes ": no definition: "
+model_message NoMain = codes ": no main rule: "
+model_message NoInit = codes ": no default init: "
+model_message Cycle = codes ": defined by itself: "
+model_message CallsTooDeep = codes ": calls too deep: "
+model_message ForbiddenRead = codes ": forbidden read: "
+model_message RangeTooWide = codes ": range too wide: "
+
+-- the line of a fault of a model at a place, without its end
+abbrev pub model_fault_text : List Source → ModelFault → List ℕ → Place → List ℕ
+model_fault_text sources kind name place = place_text sources place ++ (model_message kind ++ name)

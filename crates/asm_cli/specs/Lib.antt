@@ -1,4 +1,5 @@
 pub mod Answer
+pub mod Counts
 pub mod Exit
 pub mod Fault
 pub mod Reply

@@ -37,10 +37,11 @@ number_up_to limit word = if is_number word then at_most limit (number_of word) 
 
 -- ---- commands
 
--- what a command line asks: a run of a model with so many steps, or the canonical text of a file
+-- what a command line asks: a run of a model with so many steps, the canonical text of a file, or the check of a model
 pub data Asked : Type 0 where
   ToRun : (model : List ℕ) (steps : ℕ) → Asked
   ToFormat : (model : List ℕ) → Asked
+  ToCheck : (model : List ℕ) → Asked
 
 abbrev pub run_with : List ℕ → Option ℕ → Option Asked
 run_with model (Some steps) = Some (ToRun model steps)
@@ -52,9 +53,19 @@ run_asked word model steps = if bytes_eq word (codes "run") && is_position model
 abbrev pub format_asked : List ℕ → Option Asked
 format_asked model = if is_position model then Some (ToFormat model) else None
 
--- `format MODEL` or `run MODEL [--steps N]`, where N is at most 100,000; nothing else is asked
+abbrev pub check_asked : List ℕ → Option Asked
+check_asked model = if is_position model then Some (ToCheck model) else None
+
+-- a command of a word and a model
+abbrev pub plain_asked : List ℕ → List ℕ → Option Asked
+plain_asked word model =
+    if bytes_eq word (codes "format") then format_asked model
+    else (if bytes_eq word (codes "check") then check_asked model
+    else run_asked word model (Some 0))
+
+-- `check MODEL`, `format MODEL` or `run MODEL [--steps N]`, where N is at most 100,000; nothing else is asked
 abbrev pub asked_of : List (List ℕ) → Option Asked
-asked_of (word ∷ model ∷ []) = if bytes_eq word (codes "format") then format_asked model else run_asked word model (Some 0)
+asked_of (word ∷ model ∷ []) = plain_asked word model
 asked_of (word ∷ model ∷ option ∷ value ∷ []) = if bytes_eq option (codes "--steps") then run_asked word model (number_up_to 100000 value) else None
 asked_of words = None
 
@@ -66,3 +77,4 @@ IsBadWords words = IsNone (asked_of words)
 abbrev pub seen : Task → Asked
 seen (task.Run run) = ToRun run.model.now run.steps
 seen (task.Format model) = ToFormat model.now
+seen (task.Check model) = ToCheck model.now

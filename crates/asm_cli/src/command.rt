@@ -23,20 +23,16 @@ pub enum Task<'a> {
     Run(Run<'a>),
     /// The canonical text of the file of this name.
     Format(&'a str),
+    /// The check of the model of this name.
+    Check(&'a str),
 }
 
-/// What the words ask, where they are in the grammar: `format MODEL` or `run MODEL [--steps N]`.
+/// What the words ask, where they are in the grammar: `check MODEL`, `format MODEL` or `run MODEL [--steps N]`.
 pub fn asked(words: &[Name]) -> Option<Task<'_>>
     ensures { option_map seen result ≡ asked_of words.now }
 {
     match words {
-        [word, model] => {
-            if word.text() == "format" {
-                asked_format(model.text())
-            } else {
-                asked_run(word.text(), model.text(), Some(0))
-            }
-        }
+        [word, model] => asked_plain(word.text(), model.text()),
         [word, model, option, value] => {
             if option.text() == "--steps" {
                 asked_run(word.text(), model.text(), number(value.text(), MOST_STEPS))
@@ -46,6 +42,19 @@ pub fn asked(words: &[Name]) -> Option<Task<'_>>
         }
         _ => None,
     }
+}
+
+/// A command of a word and a model.
+fn asked_plain<'a>(word: &str, model: &'a str) -> Option<Task<'a>>
+    ensures { option_map seen result ≡ words.plain_asked word.now model.now }
+{
+    if word == "format" {
+        return asked_format(model);
+    }
+    if word == "check" {
+        return asked_check(model);
+    }
+    asked_run(word, model, Some(0))
 }
 
 /// The run of a model, where the word asks one and the steps are a number.
@@ -68,6 +77,17 @@ fn asked_format(model: &str) -> Option<Task<'_>>
 {
     if is_position(model) {
         Some(Task::Format(model))
+    } else {
+        None
+    }
+}
+
+/// The check of a model, where the word is a file's name.
+fn asked_check(model: &str) -> Option<Task<'_>>
+    ensures { option_map seen result ≡ words.check_asked model.now }
+{
+    if is_position(model) {
+        Some(Task::Check(model))
     } else {
         None
     }

@@ -153,7 +153,7 @@ fn text_in(sources: &Sources, file: u32) -> &[u8]
 }
 
 /// Appends a place as `FILE:LINE:COLUMN`.
-fn append_place(text: &mut Text, sources: &Sources, place: Place) -> Result<(), AllocError>
+pub fn append_place(text: &mut Text, sources: &Sources, place: Place) -> Result<(), AllocError>
     requires listed { place.file < length sources.now }
     requires short { All (λ source. length source.text ≤ most_bytes) sources.now }
     ensures { OnOk result (text.new ≡ text.old ++ spec.place_text sources.now place) }

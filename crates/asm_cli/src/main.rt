@@ -1,10 +1,13 @@
-//! The program: reads Abstract State Machines, prints their canonical text, and runs them.
+//! The program: reads Abstract State Machines, checks them, prints their canonical text, and runs them.
 #![tactic(auto)]
 
+mod check;
 mod command;
+mod counts;
 mod exit;
 mod fault;
 mod format;
+mod model_fault;
 mod run;
 mod say;
 #[cfg(test)]

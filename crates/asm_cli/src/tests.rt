@@ -133,7 +133,7 @@ fn each_model_has_its_run(rt: HostRuntime) -> Result<(), Fail> {
 }
 
 /// Words, with the code and what is printed over one file `t.asm` that is empty.
-const WORDS: [(&[&str], u8, &str); 14] = [
+const WORDS: [(&[&str], u8, &str); 16] = [
     (&[], 2, "asmeta: bad arguments\n"),
     (&["run"], 2, "asmeta: bad arguments\n"),
     (&["run", ""], 2, "asmeta: bad arguments\n"),
@@ -147,7 +147,13 @@ const WORDS: [(&[&str], u8, &str); 14] = [
         2,
         "asmeta: bad arguments\n",
     ),
-    (&["check", "t.asm"], 2, "asmeta: bad arguments\n"),
+    (&["check"], 2, "asmeta: bad arguments\n"),
+    (
+        &["check", "t.asm", "--steps", "1"],
+        2,
+        "asmeta: bad arguments\n",
+    ),
+    (&["check", "./t.asm"], 3, "t.asm:1:1: syntax error\n"),
     (&["format"], 2, "asmeta: bad arguments\n"),
     (&["format", "--t.asm"], 2, "asmeta: bad arguments\n"),
     (
@@ -395,6 +401,267 @@ fn at_most_64_files_are_read(rt: HostRuntime) -> Result<(), Fail> {
         let (exit, sink) = chain(alloc, count)?;
         assert_eq!(rt; exit, Exit::Code(3), "{count} files");
         assert_eq!(rt; sink.bytes(), printed.as_bytes(), "{count} files");
+    }
+    Ok(())
+}
+
+/// Signature, definitions and main rule of a model of nine lines, with the code and the line of its check.
+const CHECKS: [(&str, &str, &str, u8, &str); 30] = [
+    (
+        "domain D subsetof Integer controlled x : D controlled y : D",
+        "domain D = {1:3} rule r_two($p in D) = seq x := x + 1 y := $p endseq",
+        "r_two[x]",
+        0,
+        "ok: 1 domains, 2 functions, 2 rules, 0 invariants, 2 locations\n",
+    ),
+    (
+        "monitored m : Boolean derived p : Boolean static f : Boolean -> Boolean controlled g : Prod(Boolean, Boolean) -> Boolean",
+        "function p = f(m) function f($b in Boolean) = not $b invariant over g : g(true, false) or isUndef(g(true, false))",
+        "g(p, true) := undef",
+        0,
+        "ok: 0 domains, 4 functions, 1 rules, 1 invariants, 5 locations\n",
+    ),
+    (
+        "controlled x : Boolean controlled x : Boolean",
+        "",
+        "skip",
+        3,
+        "t.asm:3:35: declared twice: x\n",
+    ),
+    (
+        "controlled x : Boolean controlled x : Boolean controlled x : Boolean",
+        "function y = 1",
+        "z := 2",
+        3,
+        "t.asm:3:35: declared twice: x\n",
+    ),
+    (
+        "",
+        "domain D = {1}",
+        "skip",
+        3,
+        "t.asm:5:8: unknown name: D\n",
+    ),
+    (
+        "enum domain D = {AA}",
+        "domain D = {1}",
+        "skip",
+        3,
+        "t.asm:5:8: wrong kind: D\n",
+    ),
+    (
+        "domain D subsetof Boolean",
+        "domain D = {1}",
+        "skip",
+        3,
+        "t.asm:3:19: wrong kind: Boolean\n",
+    ),
+    (
+        "domain D subsetof Integer",
+        "domain D = {1, 2, 1}",
+        "skip",
+        3,
+        "t.asm:5:19: declared twice: 1\n",
+    ),
+    (
+        "domain D subsetof Integer",
+        "",
+        "skip",
+        3,
+        "t.asm:3:8: no definition: D\n",
+    ),
+    (
+        "domain D subsetof Integer controlled x : D",
+        "domain D = {3:1}",
+        "skip",
+        3,
+        "t.asm:3:8: empty domain: D\n",
+    ),
+    (
+        "domain D subsetof Integer",
+        "domain D = {0:256}",
+        "skip",
+        3,
+        "t.asm:3:8: domain too large: D\n",
+    ),
+    (
+        "controlled x : D",
+        "",
+        "skip",
+        3,
+        "t.asm:3:16: unknown name: D\n",
+    ),
+    (
+        "controlled x : Integer",
+        "",
+        "skip",
+        3,
+        "t.asm:3:16: domain too large: Integer\n",
+    ),
+    (
+        "static f : Prod(Boolean, Boolean, Boolean, Boolean, Boolean) -> Boolean",
+        "",
+        "skip",
+        3,
+        "t.asm:3:8: wrong number of arguments: f\n",
+    ),
+    (
+        "domain D subsetof Integer controlled f : Prod(D, D) -> D",
+        "domain D = {0:99}",
+        "skip",
+        3,
+        "t.asm:3:38: too many locations: f\n",
+    ),
+    ("", "", "x := true", 3, "t.asm:7:1: unknown name: x\n"),
+    (
+        "monitored m : Boolean",
+        "",
+        "m := true",
+        3,
+        "t.asm:7:1: wrong kind: m\n",
+    ),
+    (
+        "derived p : Boolean",
+        "function p = true function p = false",
+        "skip",
+        3,
+        "t.asm:5:28: declared twice: p\n",
+    ),
+    (
+        "derived p : Boolean",
+        "function p = true",
+        "if p(true) then skip endif",
+        3,
+        "t.asm:7:4: wrong number of arguments: p\n",
+    ),
+    (
+        "controlled x : Boolean",
+        "",
+        "x := 1",
+        3,
+        "t.asm:7:6: wrong type: 1\n",
+    ),
+    (
+        "controlled x : Boolean",
+        "",
+        "par if 1 then x := 2 endif x := 3 endpar",
+        3,
+        "t.asm:7:8: wrong type: 1\n",
+    ),
+    (
+        "controlled x : Boolean",
+        "",
+        "x := $v",
+        3,
+        "t.asm:7:6: unbound variable: $v\n",
+    ),
+    (
+        "",
+        "invariant over y : true",
+        "skip",
+        3,
+        "t.asm:5:16: unknown name: y\n",
+    ),
+    (
+        "derived p : Boolean",
+        "",
+        "skip",
+        3,
+        "t.asm:3:9: no definition: p\n",
+    ),
+    (
+        "controlled x : Boolean derived p : Boolean derived q : Boolean",
+        "function p = q function q = p",
+        "skip",
+        3,
+        "t.asm:5:10: defined by itself: p\n",
+    ),
+    (
+        "",
+        "rule r_a = r_b[] rule r_b = par skip r_a[] endpar",
+        "skip",
+        3,
+        "t.asm:5:6: defined by itself: r_a\n",
+    ),
+    (
+        "monitored m : Boolean static p : Boolean",
+        "function p = m",
+        "skip",
+        3,
+        "t.asm:5:10: forbidden read: p\n",
+    ),
+    (
+        "monitored m : Boolean derived p : Boolean",
+        "function p = m invariant over p : p",
+        "skip",
+        3,
+        "t.asm:5:16: forbidden read: invariant\n",
+    ),
+    (
+        "controlled x : Boolean",
+        "",
+        "x := 2147483648 * 2147483648 * 2 > 0",
+        3,
+        "t.asm:7:6: range too wide: 2147483648\n",
+    ),
+    (
+        "controlled x : Boolean",
+        "",
+        "x := 2147483648 * 2147483648 > 0",
+        0,
+        "ok: 0 domains, 1 functions, 1 rules, 0 invariants, 1 locations\n",
+    ),
+];
+
+#[test]
+fn each_model_is_checked(rt: HostRuntime) -> Result<(), Fail> {
+    let alloc = rt.alloc();
+    for (signature, definitions, main, code, printed) in CHECKS {
+        let held = format!(in alloc;
+            "asm t\nsignature:\n{signature}\ndefinitions:\n{definitions}\nmain rule r_Main =\n{main}\ndefault init s0:\n\n"
+        )?;
+        let (exit, sink) = run(alloc, &held, &["check", "t.asm"])?;
+        assert_eq!(rt; exit, Exit::Code(code), "{signature} {definitions} {main}");
+        assert_eq!(rt;
+            sink.bytes(),
+            printed.as_bytes(),
+            "{signature} {definitions} {main}"
+        );
+    }
+    Ok(())
+}
+
+/// A file, with the code and the line of its check.
+const WHOLE_CHECKS: [(&str, u8, &str); 4] = [
+    (
+        "module t signature: definitions:",
+        3,
+        "t.asm:1:8: no main rule: t\n",
+    ),
+    (
+        "asm t signature: definitions: default init s0:",
+        3,
+        "t.asm:1:5: no main rule: t\n",
+    ),
+    (
+        "asm t signature: definitions: main rule r_Main = skip",
+        3,
+        "t.asm:1:5: no default init: t\n",
+    ),
+    (
+        "asm t import StandardLibrary signature: abstract domain D static aa : D controlled at : D -> D definitions: main rule r_Main = forall $d in D do at($d) := aa default init s0: function at($d in D) = $d",
+        0,
+        "ok: 1 domains, 2 functions, 1 rules, 0 invariants, 1 locations\n",
+    ),
+];
+
+#[test]
+fn each_whole_file_is_checked(rt: HostRuntime) -> Result<(), Fail> {
+    let alloc = rt.alloc();
+    for (held, code, printed) in WHOLE_CHECKS {
+        let (exit, sink) = run(alloc, held, &["check", "t.asm"])?;
+        assert_eq!(rt; exit, Exit::Code(code), "{held}");
+        assert_eq!(rt; sink.bytes(), printed.as_bytes(), "{held}");
     }
     Ok(())
 }

@@ -5,6 +5,7 @@ ghost use Rattle.asm_cli.specs.Exit.{OnCode, OnFault};
 ghost use Rattle.asm_cli.specs.Words.{IsBadWords};
 ghost use Rattle.asm_cli.specs.Answer.{answer, OneAnswer, Prints, PrintsPart, HasFileFault, IsDone, IsStopped};
 
+use crate::check::check_model;
 use crate::command::{Task, asked};
 use crate::exit::Exit;
 use crate::format::format_file;
@@ -58,5 +59,6 @@ fn command<S: Shelf, K: Sink>(alloc: Global, words: &[Name], shelf: &mut S, sink
         None => say(sink, b"asmeta: bad arguments\n", 2),
         Some(Task::Run(run)) => run_model(alloc, run.model, run.steps, shelf, sink),
         Some(Task::Format(model)) => format_file(alloc, model, shelf, sink),
+        Some(Task::Check(model)) => check_model(alloc, model, shelf, sink),
     }
 }

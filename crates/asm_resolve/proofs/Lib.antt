@@ -1,0 +1,3 @@
+mod Locations
+mod Passing
+mod Signing

@@ -15,7 +15,7 @@ use Rattle.asm_eval.proofs.Single.{exact_prop, all_exact_prop, nothing_prop, wit
 use Rattle.asm_fire.specs.Sound.{IsEverExact, AreEverExact, IsKept, HasDomain, OfBodies, IsSoundIn, AreSoundIn, IsSoundBody, sound_within, IsSound}
 
 module _ (m : Machine) (i : Input) where
-  ever_prop : (e : Places) (t : Tree) → IsProp (IsEverExact m i e t)
+  pub ever_prop : (e : Places) (t : Tree) → IsProp (IsEverExact m i e t)
   ever_prop e t = hlevel (λ (s : State). exact_prop (world_in m s i) (calls_of (world_in m s i)) (exact_within (world_in m s i) 32) (within_prop (world_in m s i) 32) unbound nothing nothing_prop (close e t))
 
   all_ever_prop : (e : Places) (ts : Trees) → IsProp (AreEverExact m i e ts)

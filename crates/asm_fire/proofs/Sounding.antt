@@ -29,7 +29,7 @@ use Rattle.asm_node.specs.Step.{IsState, IsInput, alone}
 use Rattle.asm_node.specs.Ranges.{Range, Ranges, no_ranges, put_range, IsIn, AreBound, AreParameters, HasRange, HaveRanges, IsRanged, AreDefinitionsRanged}
 use Rattle.asm_node.specs.RuleRanges.{IsRangedRule, AreRangedRules}
 use Rattle.asm_node.specs.Types.{Types, put_type, bound_types, parameter_types, no_types, IsTypedRule, AreTypedRules}
-use Rattle.asm_node.specs.WellFormed.{IsDefinition, IsMacro, IsRule, IsWellFormed, is_defined, may_read}
+use Rattle.asm_node.specs.WellFormed.{IsDefinition, IsMacro, IsRule, IsCondition, IsInvariant, IsWellFormed, is_defined, may_read}
 use Rattle.asm_node.proofs.Closed.{IsClosed, closed}
 use Rattle.asm_node.proofs.ClosedExact.{each_at, closed_exact, all_closed_exact, closed_value}
 use Rattle.asm_node.proofs.Formed.{all_at, definitions_ranged}
@@ -38,7 +38,7 @@ use Rattle.asm_node.proofs.Ranging.{element_in, within_in}
 use Rattle.asm_node.proofs.Valued.{Answers, answer_is, any_answers, value_in, calls_in}
 use Rattle.asm_eval.specs.World.{world_in}
 use Rattle.asm_fire.specs.Sound.{IsEverExact, AreEverExact, IsKept, HasDomain, IsSoundIn, AreSoundIn, IsSoundBody, sound_within, IsSound}
-use Rattle.asm_fire.proofs.Single.{one_proof}
+use Rattle.asm_fire.proofs.Single.{one_proof, ever_prop}
 
 kept_dynamic : (kind : FunKind) → is_kept kind ≡ true → IsTrue (is_dynamic kind)
 kept_dynamic Static is = absurd (cc (is))
@@ -209,3 +209,16 @@ rule_of_model model i input r is = ∥∥₁_elim model.well_formed (one_proof (
 -- and so is its main rule
 pub main_is_sound : (model : Model) (i : Input) → IsInput (machine_of model) i → IsSound (machine_of model) i (machine_of model).main
 main_is_sound model i input = ∥∥₁_elim model.well_formed (one_proof (machine_of model) i (machine_of model).main) (λ well. rule_is_sound (machine_of model) i input well (machine_of model).main well.main)
+
+-- a closed truth value of a model is exact in each state
+pub condition_of_model : (model : Model) (i : Input) → IsInput (machine_of model) i → (t : Tree) → IsCondition (machine_of model) t → IsEverExact (machine_of model) i nowhere t
+condition_of_model model i input t is =
+    ∥∥₁_elim model.well_formed (ever_prop (machine_of model) i nowhere t)
+    (λ well. ever_exact (machine_of model) i input well no_ranges nowhere t is.ranged.0 (placed_nowhere (machine_of model) i input well no_ranges) is.ranged.1)
+
+-- and so is each invariant
+pub invariant_of_model : (model : Model) (i : Input) → IsInput (machine_of model) i → (k : ℕ) (t : Tree) → slice_get (machine_of model).invariants k ≡ Some t → IsEverExact (machine_of model) i nowhere t
+invariant_of_model model i input k t at =
+    ∥∥₁_elim model.well_formed (ever_prop (machine_of model) i nowhere t)
+    (λ well. (let is = all_at (IsInvariant (machine_of model)) (machine_of model).invariants k t well.invariants at in
+    ever_exact (machine_of model) i input well no_ranges nowhere t is.condition.ranged.0 (placed_nowhere (machine_of model) i input well no_ranges) is.condition.ranged.1))

@@ -11,5 +11,5 @@ mod tests;
 mod update;
 
 pub use error::FireError;
-pub use sound_law::rules_are_sound;
+pub use sound_law::{conditions_are_exact, rules_are_sound};
 pub use taking::fire;

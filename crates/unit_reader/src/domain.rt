@@ -19,8 +19,9 @@ use asm_tree::term::RawName;
 use asm_tree::unit::{RawDefinition, RawInt};
 use std::alloc::Global;
 
+/// A whole number as it is written, with its sign.
 #[tactic(auto, unfolding(asm_tree::specs::Rules::int))]
-fn int(alloc: Global, tokens: &[Lexeme]) -> Result<(RawInt, &[Lexeme]), Stop>
+pub fn int(alloc: Global, tokens: &[Lexeme]) -> Result<(RawInt, &[Lexeme]), Stop>
     ensures { Gives models (λ x. (x.0, all_seen x.1.now)) result (read_flat rules.int (all_seen tokens.now)) }
 {
     if begins(tokens, Class::Minus) {

@@ -10,7 +10,7 @@ ghost use Rattle.asm_tree.specs.declared.class.Class.TheVariants as class_is;
 ghost use Rattle.asm_body.specs.Reading.{read_flat};
 ghost use Rattle.asm_body.specs.Seen.{all_seen};
 
-use crate::path::path;
+use crate::path::read_path;
 use asm_body::{Lexeme, any_word, begins, expect};
 use asm_grammar::Stop;
 use asm_list::Listed;
@@ -23,7 +23,7 @@ fn import(alloc: Global, tokens: &[Lexeme]) -> Result<(RawPath, &[Lexeme]), Stop
     ensures { Gives models (λ x. (x.0, all_seen x.1.now)) result (read_flat (after class_is.Import units.path) (all_seen tokens.now)) }
 {
     let (_, rest) = expect(tokens, Class::Import)?;
-    path(alloc, rest)
+    read_path(alloc, rest)
 }
 
 /// The paths that are imported.

@@ -8,4 +8,6 @@ mod file;
 mod header;
 mod path;
 
+pub use domain::int;
 pub use file::unit_from;
+pub use path::read_path;

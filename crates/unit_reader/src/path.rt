@@ -91,7 +91,7 @@ fn more_parts(
 
 /// A path, at the place of its first token.
 #[tactic(auto, using(crate::proofs::Paths::path_is))]
-pub fn path(alloc: Global, tokens: &[Lexeme]) -> Result<(RawPath, &[Lexeme]), Stop>
+pub fn read_path(alloc: Global, tokens: &[Lexeme]) -> Result<(RawPath, &[Lexeme]), Stop>
     ensures { Gives models (λ x. (x.0, all_seen x.1.now)) result (read_flat units.path (all_seen tokens.now)) }
 {
     let (at, first, rest) = part(alloc, tokens)?;

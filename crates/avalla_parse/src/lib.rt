@@ -1,0 +1,6 @@
+//! Reads the tokens of input files and of scenarios into their trees.
+#![tactic(auto)]
+
+mod parse;
+
+pub use parse::inputs;

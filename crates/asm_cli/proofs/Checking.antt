@@ -27,42 +27,11 @@ use Rattle.asm_cli.specs.Fault.{model_fault_text}
 use Rattle.asm_cli.specs.Answer.{Saying, Says, says_faulted, says_checked}
 use Rattle.asm_cli.specs.Reply.{Replies}
 
--- ---- the file of a fault is listed
-
 never : {A : Type 0} (x : A) → None ≡ Some x → ⊥
 never x e = cc
 
 same_some : {A : Type 0} (x y : A) → Some x ≡ Some y → x ≡ y
 same_some x y e = cc
-
-get_is : {A : Type 0} (xs : List A) (n : ℕ) (x : A) → slice_get xs n ≡ Some x → (n < length xs) × (get_or xs n x ≡ x)
-get_is [] n x at = absurd (never x at)
-get_is (y ∷ ys) zero x at = (omega arith, same_some y x at)
-get_is (y ∷ ys) (suc n) x at = let rest = get_is ys n x at in (omega (arith, rest.0), rest.1)
-
-module _ (sources : List Source) (units : List LoadedUnit) (are : AreUnits sources units) where
-  file_by : 0 < length sources → (n : ℕ) (o : Option LoadedUnit) → slice_get units n ≡ o → unwrap_or (option_map (λ (u : LoadedUnit). u.file) o) 0 < length sources
-  file_by some n None at = some
-  file_by some n (Some u) at = let place = get_is units n u at in subst (λ (v : LoadedUnit). v.file < length sources) place.1 (are n u place.0).listed
-
-some_sources : (sources : List Source) (units : List LoadedUnit) (f : Found) → AreUnits sources units → model_fault units ≡ Some f → 0 < length sources
-some_sources sources [] f are is = absurd (never f is)
-some_sources sources (u ∷ units) f are is = let first = (are 0 u (omega arith)).listed in omega (arith, first)
-
-abbrev place_of : ModelError → Option Place
-place_of (Fault kind name place) = Some place
-place_of Memory = None
-
-listed_by : (sources : List Source) (units : List LoadedUnit) (o : Option Found) (kind : ModelFault) (name : List ℕ) (place : Place) → AreUnits sources units → model_fault units ≡ o → option_map (told_of units) o ≡ Some (Fault kind name place) → place.file < length sources
-listed_by sources units None kind name place are is told = absurd (never (Fault kind name place) told)
-listed_by sources units (Some f) kind name place are is told =
-    let e : told_of units f ≡ Fault kind name place = same_some (told_of units f) (Fault kind name place) told in
-    let at : record { file = file_of units f.unit; at = f.at } ≡ place = same_some _ _ (ap place_of e) in
-    subst (λ (p : Place). p.file < length sources) at (file_by sources units are (some_sources sources units f are is) f.unit (slice_get units f.unit) refl)
-
--- where this is told of the first fault, its file is one of the sources
-pub listed : (sources : List Source) (units : List LoadedUnit) (kind : ModelFault) (name : List ℕ) (place : Place) → AreUnits sources units → option_map (told_of units) (model_fault units) ≡ Some (Fault kind name place) → place.file < length sources
-listed sources units kind name place are told = listed_by sources units (model_fault units) kind name place are refl told
 
 -- ---- what is said
 

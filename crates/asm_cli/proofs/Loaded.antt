@@ -1,5 +1,5 @@
 -- What is printed of a model's files, by what became of loading them.
-use Rattle.std.proofs.Common.{◌≡◌, ◌∙◌, ℕ, ◌≤◌, List, [], ◌++◌, length, Option, refl, ap, sym, subst, inl}
+use Rattle.std.proofs.Common.{◌≡◌, ◌∙◌, ℕ, ◌≤◌, List, [], ◌++◌, length, Option, refl, ap, sym, subst, inl, arith}
 use Rattle.std.specs.Prelude.{All}
 use Rattle.asm_io.specs.Outside.{AddsPart}
 use Rattle.asm_io.proofs.Printing.{part_of_none}
@@ -13,7 +13,7 @@ use Rattle.asm_cli.specs.declared.exit.Exit.{Exit}
 use Rattle.asm_cli.specs.declared.exit.Exit.TheVariants.{Code, ReadFault, WriteFault, Memory}
 use Rattle.asm_cli.specs.Exit.{OnFault}
 use Rattle.asm_cli.specs.Fault.{fault_text}
-use Rattle.asm_cli.specs.Answer.{Saying, Says, PrintsPart, says_outcome}
+use Rattle.asm_cli.specs.Answer.{Saying, Says, PrintsPart, most_input_bytes, says_outcome}
 use Rattle.asm_cli.specs.Reply.{Replies, Refuses, EndsQuiet}
 
 module _ {A : Type 0} {K : Type 0} (written : K → Option (List ℕ)) (faults : K → ℕ) (old new : K) (says : List Source → A → Saying) (o : Outcome A) (now : List Source) (exit : Exit) where
@@ -46,8 +46,11 @@ module _ {A : Type 0} {K : Type 0} (written : K → Option (List ℕ)) (faults :
 
 -- ---- what was read
 
-pub all_short : (before now : List Source) → before ≡ [] → AddsFiles most_bytes before now → All (λ (source : Source). length source.text ≤ most_bytes) now
-all_short before now none adds = subst (λ (l : List Source). All (λ (source : Source). length source.text ≤ most_bytes) l) (sym (adds.now_is ∙ ap (λ (l : List Source). l ++ adds.added) none)) adds.short
+all_at_most : (limit : ℕ) (now : List Source) → limit ≤ most_input_bytes → All (λ (source : Source). length source.text ≤ limit) now → All (λ (source : Source). length source.text ≤ most_input_bytes) now
+all_at_most limit now few short = λ i source within. (let at = short i source within in omega (arith, at, few))
+
+pub all_short : (before now : List Source) → before ≡ [] → AddsFiles most_bytes before now → All (λ (source : Source). length source.text ≤ most_input_bytes) now
+all_short before now none adds = all_at_most most_bytes now (omega arith) (subst (λ (l : List Source). All (λ (source : Source). length source.text ≤ most_bytes) l) (sym (adds.now_is ∙ ap (λ (l : List Source). l ++ adds.added) none)) adds.short)
 
 pub units_of : (sources : List Source) (units listed : List LoadedUnit) → listed ≡ units → AreUnits sources units → AreUnits sources listed
 units_of sources units listed same are = subst (λ (us : List LoadedUnit). AreUnits sources us) (sym same) are

@@ -1,32 +1,35 @@
 -- What a command line prints, and with which code.
-use Rattle.std.specs.Prelude.{◌≡◌, ◌⊎◌, ℕ, List, [], ◌∷◌, ◌++◌, Option, Some, None, Result, Ok, Err, codes}
+use Rattle.std.specs.Prelude.{◌≡◌, ◌⊎◌, ℕ, List, [], ◌∷◌, ◌++◌, length, Option, Some, None, Result, Ok, Err, unwrap_or, codes}
 use Rattle.asm_io.specs.Outside.{Files, Adds, AddsPart}
+use Rattle.asm_io.specs.Spots.{text_of}
+use Rattle.asm_io.specs.declared.sources.Place.{Place}
 use Rattle.asm_io.specs.declared.sources.Source.{Source}
+use Rattle.asm_lex.specs.declared.token.Token.{Token}
+use Rattle.asm_tree.specs.declared.error.ParseError.{ParseError}
+use Rattle.asm_tree.specs.declared.script.RawInputs.{RawInputs}
+use Rattle.asm_tree.specs.declared.term.RawName.{RawName}
 use Rattle.asm_tree.specs.declared.unit.LoadedUnit.{LoadedUnit}
 use Rattle.asm_tree.specs.declared.unit.RawUnit.{RawUnit}
 use Rattle.asm_canonical.specs.Units.{canonical}
-use Rattle.boolean_fire.specs.declared.stop.Stop.{Stop}
-use Rattle.boolean_run.specs.declared.machine.Machine.{Machine}
-use Rattle.boolean_run.specs.declared.run.RunEnd.{RunEnd}
-use Rattle.boolean_run.specs.declared.run.RunEnd.TheVariants.{Done, Stopped}
-use Rattle.boolean_run.specs.Machine.{machine_of}
-use Rattle.boolean_run.specs.Printed.{run_of}
-use Rattle.asm_unit.specs.Path.{normalised}
+use Rattle.asm_node.specs.declared.stop.Stop.{Stop}
+use Rattle.asm_node.specs.Machine.{Machine, Input}
 use Rattle.asm_unit.specs.declared.error.LoadError.{LoadError}
-use Rattle.asm_unit.specs.Loading.{Outcome, units_in, unit_in}
+use Rattle.asm_unit.specs.Loading.{Outcome, ended, units_in, unit_in, tokens_in}
+use Rattle.asm_unit.specs.Spelled.{parse_fault}
+use Rattle.avalla_parse.specs.Parsed.{parsed_inputs}
 use Rattle.asm_faults.specs.declared.fault.Fault.{Fault}
 use Rattle.asm_faults.specs.Check.{model_fault}
 use Rattle.asm_resolve.specs.Resolved.{file_of}
+use Rattle.asm_renaming.specs.Coded.{coded_machine}
+use Rattle.asm_bind.specs.Given.{inputs_of}
+use Rattle.asm_run.specs.declared.run.RunEnd.{RunEnd}
+use Rattle.asm_run.specs.declared.run.RunEnd.TheVariants.{Done, Stopped}
+use Rattle.asm_run.specs.Printed.{Printed, run_of}
 use Rattle.asm_cli.specs.Counts.{counts_of, counts_text}
-use Rattle.asm_cli.specs.Fault.{fault_text, model_fault_text}
-use Rattle.asm_cli.specs.Words.{Asked, ToRun, ToFormat, ToCheck, asked_of}
+use Rattle.asm_cli.specs.Fault.{fault_text, model_fault_text, bad_set_text}
+use Rattle.asm_cli.specs.Words.{Asked, ToRun, ToFormat, ToCheck, Plan, asked_of}
 
 -- ---- models
-
--- the machine of a model's units, if it is one Boolean model
-abbrev pub machine_of_units : List LoadedUnit → Option Machine
-machine_of_units (loaded ∷ []) = machine_of loaded.unit
-machine_of_units _ = None
 
 -- what a model's files come to
 abbrev pub loaded : Files → List ℕ → Outcome (List LoadedUnit)
@@ -35,6 +38,34 @@ loaded files model = units_in files model []
 -- what a file comes to without its imports
 abbrev pub alone : Files → List ℕ → Outcome RawUnit
 alone files model = unit_in files model []
+
+-- ---- input files
+
+-- the greatest number of bytes of an input file
+abbrev pub most_input_bytes : ℕ
+most_input_bytes = 1048576
+
+-- a file that gives no input
+abbrev pub nothing_given : RawInputs
+nothing_given = record { steps = [] }
+
+-- what tokens of the file of this number spell, or why they spell nothing
+abbrev pub spelled : ℕ → List ℕ → List Token → Result RawInputs ParseError → Result RawInputs LoadError
+spelled file text tokens (Ok raw) = Ok raw
+spelled file text tokens (Err e) = Err (parse_fault file text tokens e)
+
+abbrev pub spelled_from : ℕ → List ℕ → Result (List Token) LoadError → Result RawInputs LoadError
+spelled_from file text (Ok tokens) = spelled file text tokens (parsed_inputs text tokens)
+spelled_from file text (Err e) = Err e
+
+-- the settings of the file that was read last, of which these are the tokens
+abbrev pub settings_of : ℕ → Outcome (List Token) → Outcome RawInputs
+settings_of file o = record { sources = o.sources; end = spelled_from file (text_of o.sources file) o.end }
+
+-- the settings of the input file, which is read after these files; where none is named nothing is given
+abbrev pub settings : Files → Option (List ℕ) → List Source → Outcome RawInputs
+settings files None sources = ended sources nothing_given
+settings files (Some name) sources = settings_of (length sources) (tokens_in files most_input_bytes name sources)
 
 -- ---- what is printed, as relations between a text and a code
 
@@ -55,20 +86,6 @@ pub record Says (line : List ℕ) (meant : ℕ) (text : List ℕ) (code : ℕ) :
 abbrev pub end_code : RunEnd → ℕ
 end_code Done = 0
 end_code (Stopped e) = 4
-
--- the run of the machine
-pub record SaysRun (machine : Machine) (sources : List Source) (steps : ℕ) (text : List ℕ) (code : ℕ) : Type 0 where
-  pub text_is : text ≡ (run_of machine sources steps).text
-  pub code_is : code ≡ end_code (run_of machine sources steps).end
-
--- the run of a machine, or the line where there is none
-abbrev pub says_machine : List ℕ → ℕ → List Source → Option Machine → Saying
-says_machine name steps sources None text code = Says (name ++ codes ": not built yet") 3 text code
-says_machine name steps sources (Some machine) text code = SaysRun machine sources steps text code
-
--- what is printed of the units of a model in a run of so many steps
-abbrev pub says_units : List ℕ → ℕ → List Source → List LoadedUnit → Saying
-says_units name steps sources units text code = says_machine name steps sources (machine_of_units units) text code
 
 -- the canonical text of a unit
 abbrev pub says_canonical : List Source → RawUnit → Saying
@@ -92,9 +109,47 @@ says_end says sources (Err fault) text code = Says (fault_text sources fault) 3 
 abbrev pub says_outcome : {A : Type 0} → (List Source → A → Saying) → Outcome A → Saying
 says_outcome says o text code = says_end says o.sources o.end text code
 
+-- how many steps are made: as many as the plan says, else as many as the input file has
+abbrev pub steps_of : Plan → RawInputs → ℕ
+steps_of plan raw = unwrap_or plan.steps (length raw.steps)
+
+-- the run of a machine under inputs
+abbrev pub run_under : Plan → Machine → List Source → RawInputs → List Input → Printed
+run_under plan m sources raw inputs = run_of m sources inputs plan.choices (steps_of plan raw)
+
+-- what a run prints, and its code
+pub record SaysRun (run : Printed) (text : List ℕ) (code : ℕ) : Type 0 where
+  pub text_is : text ≡ run.text
+  pub code_is : code ≡ end_code run.end
+
+-- the place of a bad setting's name in the file of this number
+abbrev pub set_place : ℕ → RawName → Place
+set_place file name = record { file = file; at = name.at }
+
+-- the run under the inputs that the settings of the file of this number give, or the line of the first bad setting
+abbrev pub says_bound : Plan → Machine → ℕ → List Source → RawInputs → Result (List Input) RawName → Saying
+says_bound plan m file sources raw (Ok inputs) text code = SaysRun (run_under plan m sources raw inputs) text code
+says_bound plan m file sources raw (Err name) text code = Says (bad_set_text sources (set_place file name) name.text) 3 text code
+
+abbrev pub says_given : Plan → Machine → ℕ → List Source → RawInputs → Saying
+says_given plan m file sources raw text code = says_bound plan m file sources raw (inputs_of m.signature raw) text code
+
+-- the run of a machine, of which these files were read, under the settings of the input file, or the line of what is wrong first with that
+abbrev pub says_settled : Plan → Machine → Files → List Source → Saying
+says_settled plan m files sources text code = says_outcome (says_given plan m (length sources)) (settings files plan.inputs sources) text code
+
+-- the run of the model of these units, in which nothing is wrong, or the line of the first thing that is
+abbrev pub says_sound : Plan → Files → List Source → List LoadedUnit → Option Fault → Saying
+says_sound plan files sources units None text code = says_settled plan (coded_machine units) files sources text code
+says_sound plan files sources units (Some f) text code = Says (model_fault_text sources f.kind f.name (record { file = file_of units f.unit; at = f.at })) 3 text code
+
+-- what the run of a model of these units prints
+abbrev pub says_run : Plan → Files → List Source → List LoadedUnit → Saying
+says_run plan files sources units text code = says_sound plan files sources units (model_fault units) text code
+
 -- what a command prints over these files: the run of a model, the canonical text of one file, or what the check of a model finds
 abbrev pub says_task : Asked → Files → Saying
-says_task (ToRun model steps) files text code = says_outcome (says_units (normalised model) steps) (loaded files model) text code
+says_task (ToRun plan) files text code = says_outcome (says_run plan files) (loaded files plan.model) text code
 says_task (ToFormat model) files text code = says_outcome says_canonical (alone files model) text code
 says_task (ToCheck model) files text code = says_outcome says_checked (loaded files model) text code
 
@@ -112,9 +167,24 @@ OneAnswer = (words : List (List ℕ)) (files : Files) (t u : List ℕ) (k l : �
 
 -- ---- causes of the codes
 
+-- the units of a model in which nothing is wrong
+pub record IsModel (files : Files) (model : List ℕ) (units : List LoadedUnit) : Type 0 where
+  pub units_are : (loaded files model).end ≡ Ok units
+  pub no_fault : model_fault units ≡ None
+
+-- the settings of a run's input file
+abbrev pub settings_for : Files → Plan → Outcome RawInputs
+settings_for files plan = settings files plan.inputs (loaded files plan.model).sources
+
+-- the fault is the first of the files of a model, or, where nothing is wrong with the model, that of the input file
+abbrev pub IsFaultOfRun : Plan → Files → LoadError → Type 0
+IsFaultOfRun plan files fault =
+    ((loaded files plan.model).end ≡ Err fault)
+    ⊎ ((units : List LoadedUnit) × IsModel files plan.model units × ((settings_for files plan).end ≡ Err fault))
+
 -- this is the first fault of a file that the command reads
 abbrev pub IsFirstFault : Asked → Files → LoadError → Type 0
-IsFirstFault (ToRun model steps) files fault = (loaded files model).end ≡ Err fault
+IsFirstFault (ToRun plan) files fault = IsFaultOfRun plan files fault
 IsFirstFault (ToFormat model) files fault = (alone files model).end ≡ Err fault
 IsFirstFault (ToCheck model) files fault = (loaded files model).end ≡ Err fault
 
@@ -125,38 +195,51 @@ pub record IsRefused (words : List (List ℕ)) (files : Files) : Type 0 where
   pub asked_is : asked_of words ≡ Some asked
   pub is_first : IsFirstFault asked files fault
 
--- the units of a model to run are no Boolean model
-pub record IsNotBuilt (words : List (List ℕ)) (files : Files) : Type 0 where
-  pub model : List ℕ
-  pub steps : ℕ
-  pub units : List LoadedUnit
-  pub asked_is : asked_of words ≡ Some (ToRun model steps)
-  pub units_are : (loaded files model).end ≡ Ok units
-  pub no_machine : machine_of_units units ≡ None
+-- the model that a command looks at whole
+abbrev pub model_asked : Asked → Option (List ℕ)
+model_asked (ToRun plan) = Some plan.model
+model_asked (ToFormat model) = None
+model_asked (ToCheck model) = Some model
 
--- something is wrong with the model to check
+-- something is wrong with the model to run or to check
 pub record IsFaulty (words : List (List ℕ)) (files : Files) : Type 0 where
+  pub asked : Asked
   pub model : List ℕ
   pub units : List LoadedUnit
   pub fault : Fault
-  pub asked_is : asked_of words ≡ Some (ToCheck model)
+  pub asked_is : asked_of words ≡ Some asked
+  pub model_is : model_asked asked ≡ Some model
   pub units_are : (loaded files model).end ≡ Ok units
   pub fault_is : model_fault units ≡ Some fault
 
--- a file has a fault, a model has one, or it can't be run yet
-abbrev pub HasFileFault : List (List ℕ) → Files → Type 0
-HasFileFault words files = IsRefused words files ⊎ (IsFaulty words files ⊎ IsNotBuilt words files)
+-- the input file of a run of a model is read
+pub record IsRead (words : List (List ℕ)) (files : Files) (plan : Plan) (units : List LoadedUnit) (raw : RawInputs) : Type 0 where
+  pub asked_is : asked_of words ≡ Some (ToRun plan)
+  pub model : IsModel files plan.model units
+  pub settings_are : (settings_for files plan).end ≡ Ok raw
 
--- the run of the model that the words name ends so
-pub record EndsIn (words : List (List ℕ)) (files : Files) (end : RunEnd) : Type 0 where
-  pub model : List ℕ
-  pub steps : ℕ
+-- a setting of the input file is bad
+pub record HasBadSet (words : List (List ℕ)) (files : Files) : Type 0 where
+  pub plan : Plan
   pub units : List LoadedUnit
-  pub machine : Machine
-  pub asked_is : asked_of words ≡ Some (ToRun model steps)
-  pub units_are : (loaded files model).end ≡ Ok units
-  pub machine_is : machine_of_units units ≡ Some machine
-  pub end_is : (run_of machine (loaded files model).sources steps).end ≡ end
+  pub raw : RawInputs
+  pub name : RawName
+  pub is_read : IsRead words files plan units raw
+  pub is_bad : inputs_of (coded_machine units).signature raw ≡ Err name
+
+-- a file has a fault, a model has one, or a setting is bad
+abbrev pub HasFileFault : List (List ℕ) → Files → Type 0
+HasFileFault words files = IsRefused words files ⊎ (IsFaulty words files ⊎ HasBadSet words files)
+
+-- the run that the words ask ends so
+pub record EndsIn (words : List (List ℕ)) (files : Files) (end : RunEnd) : Type 0 where
+  pub plan : Plan
+  pub units : List LoadedUnit
+  pub raw : RawInputs
+  pub inputs : List Input
+  pub is_read : IsRead words files plan units raw
+  pub are_given : inputs_of (coded_machine units).signature raw ≡ Ok inputs
+  pub end_is : (run_under plan (coded_machine units) (settings_for files plan).sources raw inputs).end ≡ end
 
 -- the file to format is a unit
 pub record IsFormatted (words : List (List ℕ)) (files : Files) : Type 0 where
@@ -170,8 +253,7 @@ pub record IsFaultless (words : List (List ℕ)) (files : Files) : Type 0 where
   pub model : List ℕ
   pub units : List LoadedUnit
   pub asked_is : asked_of words ≡ Some (ToCheck model)
-  pub units_are : (loaded files model).end ≡ Ok units
-  pub no_fault : model_fault units ≡ None
+  pub is_model : IsModel files model units
 
 -- the run makes all its steps, the file to format is a unit, or nothing is wrong with the model to check
 abbrev pub IsDone : List (List ℕ) → Files → Type 0

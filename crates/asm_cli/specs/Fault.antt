@@ -1,8 +1,8 @@
 -- What is printed of a fault of a file or of a model.
-use Rattle.std.specs.Prelude.{ℕ, List, [], ◌++◌, drop, take_while, slice_get, codes}
+use Rattle.std.specs.Prelude.{ℕ, List, [], ◌++◌, drop, take_while, codes}
 use Rattle.asm_io.specs.declared.sources.Source.{Source}
 use Rattle.asm_io.specs.declared.sources.Place.{Place}
-use Rattle.asm_io.specs.Spots.{spot_at, text_of}
+use Rattle.asm_io.specs.Spots.{text_of}
 use Rattle.asm_lex.specs.Cut.{in_word}
 use Rattle.asm_lex.specs.declared.error.LexError.{LexError}
 use Rattle.asm_lex.specs.declared.error.LexError.TheVariants as lex
@@ -10,13 +10,9 @@ use Rattle.asm_tree.specs.declared.error.ParseError.{ParseError}
 use Rattle.asm_tree.specs.declared.error.ParseError.TheVariants as parse
 use Rattle.asm_faults.specs.declared.fault.ModelFault.{ModelFault}
 use Rattle.asm_faults.specs.declared.fault.ModelFault.TheVariants.{Duplicate, Unknown, WrongKind, WrongArity, WrongType, Unbound, EmptyDomain, DomainTooLarge, TooManyLocations, NoDefinition, NoMain, NoInit, Cycle, CallsTooDeep, ForbiddenRead, RangeTooWide}
-use Rattle.boolean_run.specs.Printed.{file_name, spot_text}
+use Rattle.asm_text.specs.Texts.{place_text}
 use Rattle.asm_unit.specs.declared.error.LoadError.{LoadError}
 use Rattle.asm_unit.specs.declared.error.LoadError.TheVariants.{Absent, TooLong, Read, Lex, Parse, ImportCycle, TooManyFiles, Memory}
-
--- a place as `FILE:LINE:COLUMN`
-abbrev pub place_text : List Source → Place → List ℕ
-place_text sources place = file_name (slice_get sources place.file) ++ codes ":" ++ spot_text (spot_at (text_of sources place.file) place.at)
 
 abbrev pub lex_message : LexError → List ℕ
 lex_message (lex.BadByte at) = codes ": unexpected byte"
@@ -67,3 +63,7 @@ model_message RangeTooWide = codes ": range too wide: "
 -- the line of a fault of a model at a place, without its end
 abbrev pub model_fault_text : List Source → ModelFault → List ℕ → Place → List ℕ
 model_fault_text sources kind name place = place_text sources place ++ (model_message kind ++ name)
+
+-- the line of a bad setting of this name, without its end
+abbrev pub bad_set_text : List Source → Place → List ℕ → List ℕ
+bad_set_text sources place name = place_text sources place ++ (codes ": bad set: " ++ name)

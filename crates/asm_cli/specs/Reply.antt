@@ -1,6 +1,6 @@
 -- What a call that prints an answer does.
-use Rattle.std.specs.Prelude.{◌≡◌, ◌≤◌, ℕ, List, Option}
-use Rattle.asm_io.specs.Outside.{Rose}
+use Rattle.std.specs.Prelude.{◌≡◌, ◌≢◌, ◌≤◌, ℕ, List, Option}
+use Rattle.asm_io.specs.Outside.{Files, Told, Rose}
 use Rattle.asm_cli.specs.declared.exit.Exit.{Exit}
 use Rattle.asm_cli.specs.declared.exit.Exit.TheVariants.{ReadFault, WriteFault, Memory}
 use Rattle.asm_io.specs.declared.sources.Source.{Source}
@@ -34,3 +34,14 @@ Refuses written faults old new sources (Parse place e) exit = Replies written fa
 Refuses written faults old new sources (ImportCycle name) exit = Replies written faults old new (Says (fault_text sources (ImportCycle name)) 3) exit
 Refuses written faults old new sources (TooManyFiles name) exit = Replies written faults old new (Says (fault_text sources (TooManyFiles name)) 3) exit
 Refuses written faults old new sources load.Memory exit = EndsQuiet written faults old new Memory exit
+
+-- It reads from a shelf, and prints a text of this relation with its code, or ends without a code after a prefix of one. No code is that of bad words.
+pub record Serves {S K : Type 0} (files : S → Option Files) (failed : S → ℕ) (written : K → Option (List ℕ)) (faults : K → ℕ) (shelf_old shelf_new : S) (old new : K) (says : Files → Saying) (exit : Exit) : Type 0 where
+  pub answer : Told (files shelf_old) (λ held. OnCode exit (Prints (written old) (written new) (says held)))
+  pub prefix : Told (files shelf_old) (λ held. OnFault exit (PrintsPart (written old) (written new) (says held)))
+  pub good_words : OnCode exit (λ code. code ≢ 2)
+  pub read_fault : exit ≡ ReadFault → Rose (failed shelf_old) (failed shelf_new)
+  pub write_fault : exit ≡ WriteFault → Rose (faults old) (faults new)
+  pub same_files : files shelf_new ≡ files shelf_old
+  pub shelf_later : failed shelf_old ≤ failed shelf_new
+  pub sink_later : faults old ≤ faults new

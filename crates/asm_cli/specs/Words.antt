@@ -1,12 +1,21 @@
 -- What the words of a command line ask.
-use Rattle.std.specs.Prelude.{ℕ, ◌+◌, ◌-◌, ◌*◌, Bool, false, ◌&&◌, not, List, [], ◌∷◌, if◌then◌else◌, nat_le, nat_eq, Option, Some, None, IsNone, codes, bytes_eq, fold}
-use Rattle.std.specs.List.{starts_with, list_all}
+use Rattle.std.specs.Prelude.{ℕ, ◌+◌, ◌-◌, ◌*◌, ◌==◌, Bool, false, ◌&&◌, not, List, [], ◌∷◌, if◌then◌else◌, nat_le, nat_eq, map, Option, Some, None, IsNone, codes, bytes_eq, fold}
+use Rattle.std.specs.List.{starts_with, list_all, slice_split}
+use Rattle.std.specs.Option.{option_map, unwrap_or}
+use denote.Ref.{Bor}
+use Rattle.asm_cli.specs.declared.option.Options as option
+use Rattle.asm_cli.specs.declared.command.Run.{Run}
 use Rattle.asm_cli.specs.declared.command.Task.{Task}
 use Rattle.asm_cli.specs.declared.command.Task.TheVariants as task
 
 -- a word that isn't empty and isn't an option
 abbrev pub is_position : List ℕ → Bool
 is_position word = not (bytes_eq word []) && not (starts_with nat_eq word (codes "--"))
+
+-- goes on with the value, if there is one
+abbrev pub and_then : {A B : Type 0} → Option A → (A → Option B) → Option B
+and_then None f = None
+and_then (Some a) f = f a
 
 -- ---- numbers
 
@@ -35,46 +44,125 @@ at_most limit n = if nat_le n limit then Some n else None
 abbrev pub number_up_to : ℕ → List ℕ → Option ℕ
 number_up_to limit word = if is_number word then at_most limit (number_of word) else None
 
+-- the numbers, if each of the words writes one that is at most the limit
+abbrev pub numbers_among : ℕ → List (List ℕ) → Option (List ℕ)
+numbers_among limit [] = Some []
+numbers_among limit (word ∷ words) = and_then (number_up_to limit word) (λ n. option_map (λ ns. n ∷ ns) (numbers_among limit words))
+
+-- the numbers that stand between single commas
+abbrev pub numbers_up_to : ℕ → List ℕ → Option (List ℕ)
+numbers_up_to limit word = numbers_among limit (slice_split (λ b. b == 44) word)
+
+-- ---- options
+
+-- the greatest number of steps, and the greatest choice word
+abbrev pub most_steps : ℕ
+most_steps = 100000
+
+abbrev pub most_choice : ℕ
+most_choice = 4294967295
+
+-- the options of a run, where they are given
+pub record Options : Type 0 where
+  pub steps : Option ℕ
+  pub choices : Option (List ℕ)
+
+abbrev pub no_options : Options
+no_options = record { steps = None; choices = None }
+
+-- an option is given at most once
+abbrev pub once : {A : Type 0} → Option A → Option A → Option A
+once (Some a) value = None
+once None value = value
+
+abbrev pub with_steps : Options → Option ℕ → Option Options
+with_steps o value = option_map (λ n. record { steps = Some n; choices = o.choices }) (once o.steps value)
+
+abbrev pub with_choices : Options → Option (List ℕ) → Option Options
+with_choices o value = option_map (λ ws. record { steps = o.steps; choices = Some ws }) (once o.choices value)
+
+-- one more option: `--steps N` with N at most 100,000, or `--choices W,W,..` with each W at most 4,294,967,295
+abbrev pub with_option : Options → List ℕ → List ℕ → Option Options
+with_option o name value =
+    if bytes_eq name (codes "--steps") then with_steps o (number_up_to most_steps value)
+    else (if bytes_eq name (codes "--choices") then with_choices o (numbers_up_to most_choice value)
+    else None)
+
+-- options and their values, each in a word of its own
+abbrev pub options_from : Options → List (List ℕ) → Option Options
+options_from o [] = Some o
+options_from o (name ∷ []) = None
+options_from o (name ∷ value ∷ words) = and_then (with_option o name value) (λ p. options_from p words)
+
 -- ---- commands
 
--- what a command line asks: a run of a model with so many steps, the canonical text of a file, or the check of a model
+-- a run: the model, the input file where one is named, the number of steps where it is given, and the choice words
+pub record Plan : Type 0 where
+  pub model : List ℕ
+  pub inputs : Option (List ℕ)
+  pub steps : Option ℕ
+  pub choices : List ℕ
+
+-- what a command line asks: a run of a model, the canonical text of a file, or the check of a model
 pub data Asked : Type 0 where
-  ToRun : (model : List ℕ) (steps : ℕ) → Asked
+  ToRun : (plan : Plan) → Asked
   ToFormat : (model : List ℕ) → Asked
   ToCheck : (model : List ℕ) → Asked
 
-abbrev pub run_with : List ℕ → Option ℕ → Option Asked
-run_with model (Some steps) = Some (ToRun model steps)
-run_with model None = None
+abbrev pub planned : List ℕ → Option (List ℕ) → Options → Asked
+planned model inputs o = ToRun (record { model = model; inputs = inputs; steps = o.steps; choices = unwrap_or o.choices [] })
 
-abbrev pub run_asked : List ℕ → List ℕ → Option ℕ → Option Asked
-run_asked word model steps = if bytes_eq word (codes "run") && is_position model then run_with model steps else None
+-- a run of the model with these options behind its files
+abbrev pub run_with : List ℕ → Option (List ℕ) → List (List ℕ) → Option Asked
+run_with model inputs words = option_map (planned model inputs) (options_from no_options words)
 
-abbrev pub format_asked : List ℕ → Option Asked
-format_asked model = if is_position model then Some (ToFormat model) else None
+-- behind the model: an input file, where a word isn't an option, and then options
+abbrev pub run_of_model : List ℕ → List (List ℕ) → Option Asked
+run_of_model model [] = run_with model None []
+run_of_model model (word ∷ words) = if is_position word then run_with model (Some word) words else run_with model None (word ∷ words)
 
-abbrev pub check_asked : List ℕ → Option Asked
-check_asked model = if is_position model then Some (ToCheck model) else None
+-- `run MODEL [INPUTS] [--steps N] [--choices W,W,..]`, options in any order
+abbrev pub run_asked : List (List ℕ) → Option Asked
+run_asked [] = None
+run_asked (model ∷ words) = if is_position model then run_of_model model words else None
 
--- a command of a word and a model
-abbrev pub plain_asked : List ℕ → List ℕ → Option Asked
-plain_asked word model =
-    if bytes_eq word (codes "format") then format_asked model
-    else (if bytes_eq word (codes "check") then check_asked model
-    else run_asked word model (Some 0))
+-- one file alone
+abbrev pub file_asked : (List ℕ → Asked) → List (List ℕ) → Option Asked
+file_asked task (model ∷ []) = if is_position model then Some (task model) else None
+file_asked task _ = None
 
--- `check MODEL`, `format MODEL` or `run MODEL [--steps N]`, where N is at most 100,000; nothing else is asked
+-- a command and the words behind it
+abbrev pub command_asked : List ℕ → List (List ℕ) → Option Asked
+command_asked word words =
+    if bytes_eq word (codes "run") then run_asked words
+    else (if bytes_eq word (codes "format") then file_asked ToFormat words
+    else (if bytes_eq word (codes "check") then file_asked ToCheck words
+    else None))
+
+-- `check MODEL`, `format MODEL` or a run; nothing else is asked
 abbrev pub asked_of : List (List ℕ) → Option Asked
-asked_of (word ∷ model ∷ []) = plain_asked word model
-asked_of (word ∷ model ∷ option ∷ value ∷ []) = if bytes_eq option (codes "--steps") then run_asked word model (number_up_to 100000 value) else None
-asked_of words = None
+asked_of [] = None
+asked_of (word ∷ words) = command_asked word words
 
 -- the words aren't in the grammar
 abbrev pub IsBadWords : List (List ℕ) → Type 0
 IsBadWords words = IsNone (asked_of words)
 
--- what the program's value asks
+-- what references to texts point to
+abbrev pub texts : List (Bor (List ℕ)) → List (List ℕ)
+texts words = map (λ word. word.now) words
+
+-- what the program's values ask
+abbrev pub options_seen : option.Options → Options
+options_seen o = record { steps = o.steps; choices = o.choices }
+
+abbrev pub name_seen : Option (Bor (List ℕ)) → Option (List ℕ)
+name_seen name = option_map (λ word. word.now) name
+
+abbrev pub plan_seen : Run → Plan
+plan_seen run = record { model = run.model.now; inputs = name_seen run.inputs; steps = run.steps; choices = run.choices }
+
 abbrev pub seen : Task → Asked
-seen (task.Run run) = ToRun run.model.now run.steps
+seen (task.Run run) = ToRun (plan_seen run)
 seen (task.Format model) = ToFormat model.now
 seen (task.Check model) = ToCheck model.now

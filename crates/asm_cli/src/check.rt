@@ -2,12 +2,12 @@
 ghost use Rattle.std.specs.Prelude.{◌≡◌, ◌≢◌, ◌≤◌, All, None, length};
 ghost use Rattle.asm_io.specs.Outside.{Told, Rose};
 ghost use Rattle.asm_node.specs.Model.{machine_of};
-ghost use Rattle.asm_unit.specs.Loading.{most_bytes, AreUnits};
+ghost use Rattle.asm_unit.specs.Loading.{AreUnits};
 ghost use Rattle.asm_faults.specs.Check.{model_fault};
 ghost use Rattle.asm_resolve.specs.Resolved.{IsModelOf};
 ghost use Rattle.asm_cli.specs.Counts.{counts_of, counts_text};
 ghost use Rattle.asm_cli.specs.Exit.{OnCode, OnFault};
-ghost use Rattle.asm_cli.specs.Answer.{Prints, PrintsPart, Says, says_checked, says_outcome, loaded};
+ghost use Rattle.asm_cli.specs.Answer.{most_input_bytes, Prints, PrintsPart, Says, says_checked, says_outcome, loaded};
 ghost use Rattle.asm_cli.specs.Reply.{Replies};
 
 use crate::counts::counts_line;
@@ -48,7 +48,7 @@ pub fn check_model<S: Shelf, K: Sink>(
 /// Checks the model of these units.
 fn check_units<K: Sink>(alloc: Global, units: &Units, sources: &Sources, sink: &mut K) -> Exit
     requires known { AreUnits sources.now units.now }
-    requires short { All (λ source. length source.text ≤ most_bytes) sources.now }
+    requires short { All (λ source. length source.text ≤ most_input_bytes) sources.now }
     ensures { Replies K.written K.faults sink.old sink.new (says_checked sources.now units.now) result }
 {
     match resolve(alloc, units) {

@@ -1,24 +1,26 @@
 //! What the words ask.
-ghost use Rattle.std.specs.Prelude.{◌≡◌, ◌≤◌, option_map, true};
-ghost use Rattle.std.specs.List.{list_all};
-ghost use Rattle.asm_cli.specs.Words as words;
-ghost use Rattle.asm_cli.specs.Words.{asked_of, number_up_to, seen};
+ghost use Rattle.std.specs.Prelude.{◌≡◌, [], IfOk, Some, None, option_map, unwrap_or};
+ghost use Rattle.asm_cli.specs.Words as spec;
+ghost use Rattle.asm_cli.specs.Words.{asked_of, seen, options_seen, name_seen, ToFormat, ToCheck};
 
-use asm_list::Name;
-
-/// The greatest number of steps.
-const MOST_STEPS: u64 = 100_000;
+use crate::option::{Options, options_in};
+use asm_list::{Listed, Name};
+use std::alloc::{AllocError, Global};
 
 /// A run of a model.
-#[derive(Clone, Copy, Debug)]
+#[derive(Debug, Drop)]
 pub struct Run<'a> {
-    /// The file's name as it was given.
+    /// The model's file as it was given.
     pub model: &'a str,
-    pub steps: u64,
+    /// The input file, where one is named.
+    pub inputs: Option<&'a str>,
+    /// The number of steps, at most 100,000. Without it there are as many as the input file has.
+    pub steps: Option<u64>,
+    pub choices: Listed<u32>,
 }
 
 /// What is asked.
-#[derive(Clone, Copy, Debug)]
+#[derive(Debug, Drop)]
 pub enum Task<'a> {
     Run(Run<'a>),
     /// The canonical text of the file of this name.
@@ -27,129 +29,115 @@ pub enum Task<'a> {
     Check(&'a str),
 }
 
-/// What the words ask, where they are in the grammar: `check MODEL`, `format MODEL` or `run MODEL [--steps N]`.
-pub fn asked(words: &[Name]) -> Option<Task<'_>>
-    ensures { option_map seen result ≡ asked_of words.now }
+/// What the words ask, where they are in the grammar: `check MODEL`, `format MODEL` or
+/// `run MODEL [INPUTS] [--steps N] [--choices W,W,..]`.
+pub fn asked(alloc: Global, words: &[Name]) -> Result<Option<Task<'_>>, AllocError>
+    ensures { IfOk result (λ t. option_map seen t ≡ asked_of words.now) }
+{
+    let [command, rest @ ..] = words else {
+        return Ok(None);
+    };
+    match command.text() {
+        "run" => asked_run(alloc, rest),
+        "format" => Ok(asked_format(rest)),
+        "check" => Ok(asked_check(rest)),
+        _ => Ok(None),
+    }
+}
+
+/// The canonical text of a file, where one word is its name.
+fn asked_format(words: &[Name]) -> Option<Task<'_>>
+    ensures { option_map seen result ≡ spec.file_asked ToFormat words.now }
 {
     match words {
-        [word, model] => asked_plain(word.text(), model.text()),
-        [word, model, option, value] => {
-            if option.text() == "--steps" {
-                asked_run(word.text(), model.text(), number(value.text(), MOST_STEPS))
-            } else {
-                None
-            }
-        }
+        [model] if is_position(model.text()) => Some(Task::Format(model.text())),
         _ => None,
     }
 }
 
-/// A command of a word and a model.
-fn asked_plain<'a>(word: &str, model: &'a str) -> Option<Task<'a>>
-    ensures { option_map seen result ≡ words.plain_asked word.now model.now }
+/// The check of a model, where one word is its file's name.
+fn asked_check(words: &[Name]) -> Option<Task<'_>>
+    ensures { option_map seen result ≡ spec.file_asked ToCheck words.now }
 {
-    if word == "format" {
-        return asked_format(model);
-    }
-    if word == "check" {
-        return asked_check(model);
-    }
-    asked_run(word, model, Some(0))
-}
-
-/// The run of a model, where the word asks one and the steps are a number.
-fn asked_run<'a>(word: &str, model: &'a str, steps: Option<u64>) -> Option<Task<'a>>
-    ensures { option_map seen result ≡ words.run_asked word.now model.now steps }
-{
-    if word == "run" && is_position(model) {
-        Some(Task::Run(Run {
-            model,
-            steps: steps?,
-        }))
-    } else {
-        None
+    match words {
+        [model] if is_position(model.text()) => Some(Task::Check(model.text())),
+        _ => None,
     }
 }
 
-/// The canonical text of a file, where the word is a file's name.
-fn asked_format(model: &str) -> Option<Task<'_>>
-    ensures { option_map seen result ≡ words.format_asked model.now }
+/// The run that the words behind `run` ask.
+fn asked_run(alloc: Global, words: &[Name]) -> Result<Option<Task<'_>>, AllocError>
+    ensures { IfOk result (λ t. option_map seen t ≡ spec.run_asked words.now) }
 {
-    if is_position(model) {
-        Some(Task::Format(model))
-    } else {
-        None
+    let [model, rest @ ..] = words else {
+        return Ok(None);
+    };
+    if !is_position(model.text()) {
+        return Ok(None);
+    }
+    run_of(alloc, model.text(), rest)
+}
+
+/// The run of a model, where the words behind its name are in the grammar.
+fn run_of<'a>(
+    alloc: Global,
+    model: &'a str,
+    words: &'a [Name],
+) -> Result<Option<Task<'a>>, AllocError>
+    ensures { IfOk result (λ t. option_map seen t ≡ spec.run_of_model model.now words.now) }
+{
+    match words {
+        [inputs, rest @ ..] if is_position(inputs.text()) => {
+            run_with(alloc, model, Some(inputs.text()), rest)
+        }
+        _ => run_with(alloc, model, None, words),
     }
 }
 
-/// The check of a model, where the word is a file's name.
-fn asked_check(model: &str) -> Option<Task<'_>>
-    ensures { option_map seen result ≡ words.check_asked model.now }
+/// The run of a model with options.
+fn run_with<'a>(
+    alloc: Global,
+    model: &'a str,
+    inputs: Option<&'a str>,
+    words: &[Name],
+) -> Result<Option<Task<'a>>, AllocError>
+    ensures { IfOk result (λ t. option_map seen t ≡ spec.run_with model.now (name_seen inputs.entry) words.now) }
 {
-    if is_position(model) {
-        Some(Task::Check(model))
-    } else {
-        None
+    match options_in(alloc, words)? {
+        Some(options) => Ok(Some(planned(alloc, model, inputs, options))),
+        None => Ok(None),
+    }
+}
+
+fn planned<'a>(
+    alloc: Global,
+    model: &'a str,
+    inputs: Option<&'a str>,
+    options: Options,
+) -> Task<'a>
+    ensures { seen result ≡ spec.planned model.now (name_seen inputs.entry) (options_seen options) }
+{
+    let Options { steps, choices } = options;
+    Task::Run(Run {
+        model,
+        inputs,
+        steps,
+        choices: or_none(alloc, choices),
+    })
+}
+
+/// The choice words, or none.
+fn or_none(alloc: Global, choices: Option<Listed<u32>>) -> Listed<u32>
+    ensures { result ≡ unwrap_or choices [] }
+{
+    match choices {
+        Some(choices) => choices,
+        None => Listed::new(alloc),
     }
 }
 
 fn is_position(word: &str) -> bool
-    ensures { result ≡ words.is_position word.now }
+    ensures { result ≡ spec.is_position word.now }
 {
     !word.is_empty() && !word.starts_with("--")
-}
-
-/// The number that a word writes, where it is at most the limit.
-fn number(word: &str, limit: u64) -> Option<u64>
-    requires { limit ≤ 100000 }
-    ensures { result ≡ number_up_to limit word.now }
-{
-    if is_number(word) {
-        number_of(word.as_bytes(), limit)
-    } else {
-        None
-    }
-}
-
-fn is_digit(byte: u8) -> bool
-    ensures { result ≡ words.is_digit byte }
-{
-    byte.is_ascii_digit()
-}
-
-fn leads_with_zero(word: &[u8]) -> bool
-    ensures { result ≡ words.leads_with_zero word.now }
-{
-    match word {
-        [first, _, ..] => *first == b'0',
-        _ => false,
-    }
-}
-
-fn are_digits(word: &[u8]) -> bool
-    ensures { result ≡ list_all words.is_digit word.now }
-{
-    word.iter().all(|byte| is_digit(*byte))
-}
-
-fn is_number(word: &str) -> bool
-    ensures { result ≡ words.is_number word.now }
-{
-    !word.is_empty() && are_digits(word.as_bytes()) && !leads_with_zero(word.as_bytes())
-}
-
-/// The number of decimal digits, where it is at most the limit.
-fn number_of(digits: &[u8], limit: u64) -> Option<u64>
-    requires digits { list_all words.is_digit digits.now ≡ true }
-    requires small { limit ≤ 100000 }
-    ensures { result ≡ words.at_most limit (words.number_of digits.now) }
-{
-    let mut number = 0u64;
-    'digits: for byte in digits {
-        number = number * 10 + u64::from(*byte - b'0');
-        if number > limit {
-            return None;
-        }
-    }
-    Some(number)
 }

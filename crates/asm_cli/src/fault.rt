@@ -1,19 +1,17 @@
 //! The line of a file's fault.
-ghost use Rattle.std.specs.Prelude.{◌≡◌, ◌≤◌, ◌<◌, ◌^◌, ◌++◌, ◌∷◌, [], All, length, slice_get, take_while, codes, IfOk, OnOk};
-ghost use Rattle.asm_io.specs.Spots.{spot_at, text_of};
-ghost use Rattle.boolean_run.specs.Printed.{file_name};
+ghost use Rattle.std.specs.Prelude.{◌≡◌, ◌≤◌, ◌++◌, ◌∷◌, [], All, length, take_while, codes, IfOk, OnOk};
+ghost use Rattle.asm_io.specs.Spots.{text_of};
 ghost use Rattle.asm_lex.specs.Cut.{in_word};
-ghost use Rattle.asm_unit.specs.Loading.{most_bytes, IsFault};
-ghost use Rattle.asm_unit.specs.Spelled.{tree_of};
 ghost use Rattle.asm_cli.specs.Fault as spec;
 ghost use Rattle.asm_cli.specs.Reply.{Refuses, Replies};
-ghost use Rattle.asm_cli.specs.Answer.{Says};
+ghost use Rattle.asm_cli.specs.Answer.{most_input_bytes, Says};
 
 use crate::exit::Exit;
 use crate::say::say;
-use asm_io::{Place, Sink, Sources, Spot, Text, append_number, append_str};
+use asm_io::{Sink, Sources, Text, append_str};
 use asm_lex::LexError;
 use asm_list::Name;
+use asm_text::print_place;
 use asm_tree::ParseError;
 use asm_unit::LoadError;
 use std::alloc::{AllocError, Global};
@@ -25,8 +23,7 @@ pub fn refuse_load<K: Sink>(
     error: &LoadError,
     sink: &mut K,
 ) -> Exit
-    requires placed { IsFault tree_of sources.now error.now }
-    requires short { All (λ source. length source.text ≤ most_bytes) sources.now }
+    requires short { All (λ source. length source.text ≤ most_input_bytes) sources.now }
     ensures { Refuses K.written K.faults sink.old sink.new sources.now error.now result }
 {
     match error {
@@ -43,8 +40,7 @@ pub fn refuse_load<K: Sink>(
 
 /// Prints the line of a file's fault.
 fn say_fault<K: Sink>(alloc: Global, sources: &Sources, error: &LoadError, sink: &mut K) -> Exit
-    requires placed { IsFault tree_of sources.now error.now }
-    requires short { All (λ source. length source.text ≤ most_bytes) sources.now }
+    requires short { All (λ source. length source.text ≤ most_input_bytes) sources.now }
     ensures { Replies K.written K.faults sink.old sink.new (Says (spec.fault_text sources.now error.now) 3) result }
 {
     match fault_line(alloc, sources, error) {
@@ -54,8 +50,7 @@ fn say_fault<K: Sink>(alloc: Global, sources: &Sources, error: &LoadError, sink:
 }
 
 fn fault_line(alloc: Global, sources: &Sources, error: &LoadError) -> Result<Text, AllocError>
-    requires placed { IsFault tree_of sources.now error.now }
-    requires short { All (λ source. length source.text ≤ most_bytes) sources.now }
+    requires short { All (λ source. length source.text ≤ most_input_bytes) sources.now }
     ensures { IfOk result (λ text. text ≡ spec.fault_text sources.now error.now ++ 10 ∷ []) }
 {
     let mut text = Text::new(alloc);
@@ -65,8 +60,7 @@ fn fault_line(alloc: Global, sources: &Sources, error: &LoadError) -> Result<Tex
 }
 
 fn append_fault(text: &mut Text, sources: &Sources, error: &LoadError) -> Result<(), AllocError>
-    requires placed { IsFault tree_of sources.now error.now }
-    requires short { All (λ source. length source.text ≤ most_bytes) sources.now }
+    requires short { All (λ source. length source.text ≤ most_input_bytes) sources.now }
     ensures { OnOk result (text.new ≡ text.old ++ spec.fault_text sources.now error.now) }
 {
     match error {
@@ -74,11 +68,11 @@ fn append_fault(text: &mut Text, sources: &Sources, error: &LoadError) -> Result
         LoadError::TooLong(name) => append_both(text, name, ": too long"),
         LoadError::Read(_) => Ok(()),
         LoadError::Lex(place, error) => {
-            append_place(text, sources, *place)?;
+            print_place(sources, *place, text)?;
             append_str(text, lex_message(*error))
         }
         LoadError::Parse(place, error) => {
-            append_place(text, sources, *place)?;
+            print_place(sources, *place, text)?;
             let word = word_at(text_in(sources, place.file), place.at as usize);
             append_parse(text, word, *error)
         }
@@ -145,44 +139,12 @@ fn is_in_word(byte: u8) -> bool
     matches!(byte, b'a'..=b'z' | b'A'..=b'Z' | b'0'..=b'9' | b'_')
 }
 
+/// The text of the file of this number.
 fn text_in(sources: &Sources, file: u32) -> &[u8]
-    requires { file < length sources.now }
     ensures { result.now ≡ text_of sources.now file }
 {
-    sources.slice()[file as usize].text.slice()
-}
-
-/// Appends a place as `FILE:LINE:COLUMN`.
-pub fn append_place(text: &mut Text, sources: &Sources, place: Place) -> Result<(), AllocError>
-    requires listed { place.file < length sources.now }
-    requires short { All (λ source. length source.text ≤ most_bytes) sources.now }
-    ensures { OnOk result (text.new ≡ text.old ++ spec.place_text sources.now place) }
-{
-    let spot = spot_in(sources, place);
-    append_str(text, name_in(sources, place.file))?;
-    append_str(text, ":")?;
-    append_number(text, u64::from(spot.line))?;
-    append_str(text, ":")?;
-    append_number(text, u64::from(spot.column))
-}
-
-fn name_in(sources: &Sources, file: u32) -> &str
-    requires { file < length sources.now }
-    ensures { result.now ≡ file_name (slice_get sources.now file) }
-{
-    sources.slice()[file as usize].name.text()
-}
-
-/// The line and the column of a place, or of the end of the text where it has no such byte.
-fn spot_in(sources: &Sources, place: Place) -> Spot
-    requires listed { place.file < length sources.now }
-    requires short { All (λ source. length source.text ≤ most_bytes) sources.now }
-    ensures { result ≡ spot_at (text_of sources.now place.file) place.at }
-{
-    let length = text_in(sources, place.file).len();
-    let at = length.min(place.at as usize) as u32;
-    sources.spot(Place {
-        file: place.file,
-        at,
-    })
+    match sources.item(file as usize) {
+        Some(source) => source.text.slice(),
+        None => &[],
+    }
 }

@@ -8,8 +8,10 @@ mod exit;
 mod fault;
 mod format;
 mod model_fault;
+mod option;
 mod run;
 mod say;
+mod settings;
 #[cfg(test)]
 mod tests;
 mod top;

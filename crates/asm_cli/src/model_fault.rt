@@ -1,16 +1,16 @@
-//! The line of a model's fault.
-ghost use Rattle.std.specs.Prelude.{◌≡◌, ◌≤◌, ◌<◌, ◌++◌, ◌∷◌, [], All, length, IfOk, OnOk};
-ghost use Rattle.asm_unit.specs.Loading.{most_bytes};
-ghost use Rattle.asm_cli.specs.Fault.{model_message, model_fault_text};
+//! The lines of a model's fault and of a bad setting.
+ghost use Rattle.std.specs.Prelude.{◌≡◌, ◌≤◌, ◌++◌, ◌∷◌, [], All, length, IfOk, OnOk};
+ghost use Rattle.asm_text.specs.Texts.{place_text};
+ghost use Rattle.asm_cli.specs.Fault.{model_message, model_fault_text, bad_set_text};
 ghost use Rattle.asm_cli.specs.Reply.{Replies};
-ghost use Rattle.asm_cli.specs.Answer.{Says};
+ghost use Rattle.asm_cli.specs.Answer.{most_input_bytes, Says};
 
 use crate::exit::Exit;
-use crate::fault::append_place;
 use crate::say::say;
 use asm_faults::ModelFault;
 use asm_io::{Place, Sink, Sources, Text, append_str};
 use asm_list::Name;
+use asm_text::print_place;
 use std::alloc::{AllocError, Global};
 
 /// Prints the line of a fault of a model, of which the token's text and place are given.
@@ -22,30 +22,46 @@ pub fn refuse_model<K: Sink>(
     place: Place,
     sink: &mut K,
 ) -> Exit
-    requires listed { place.file < length sources.now }
-    requires short { All (λ source. length source.text ≤ most_bytes) sources.now }
+    requires { All (λ source. length source.text ≤ most_input_bytes) sources.now }
     ensures { Replies K.written K.faults sink.old sink.new (Says (model_fault_text sources.now kind name.now place) 3) result }
 {
-    match line(alloc, sources, kind, name, place) {
+    match line(alloc, sources, message(kind), name, place) {
         Ok(text) => say(sink, text.slice(), 3),
         Err(_) => Exit::Memory,
     }
 }
 
+/// Prints the line of a bad setting of this name.
+pub fn refuse_set<K: Sink>(
+    alloc: Global,
+    sources: &Sources,
+    name: &Name,
+    place: Place,
+    sink: &mut K,
+) -> Exit
+    requires { All (λ source. length source.text ≤ most_input_bytes) sources.now }
+    ensures { Replies K.written K.faults sink.old sink.new (Says (bad_set_text sources.now place name.now) 3) result }
+{
+    match line(alloc, sources, ": bad set: ", name, place) {
+        Ok(text) => say(sink, text.slice(), 3),
+        Err(_) => Exit::Memory,
+    }
+}
+
+/// The line that says this of a token at a place.
 fn line(
     alloc: Global,
     sources: &Sources,
-    kind: ModelFault,
+    reason: &str,
     name: &Name,
     place: Place,
 ) -> Result<Text, AllocError>
-    requires listed { place.file < length sources.now }
-    requires short { All (λ source. length source.text ≤ most_bytes) sources.now }
-    ensures { IfOk result (λ text. text ≡ model_fault_text sources.now kind name.now place ++ 10 ∷ []) }
+    requires { All (λ source. length source.text ≤ most_input_bytes) sources.now }
+    ensures { IfOk result (λ text. text ≡ (place_text sources.now place ++ (reason.now ++ name.now)) ++ 10 ∷ []) }
 {
     let mut text = Text::new(alloc);
-    append_place(&mut text, sources, place)?;
-    append_named(&mut text, message(kind), name)?;
+    print_place(sources, place, &mut text)?;
+    append_named(&mut text, reason, name)?;
     append_str(&mut text, "\n")?;
     Ok(text)
 }

@@ -1,9 +1,9 @@
 //! The top call.
-ghost use Rattle.std.specs.Prelude.{◌≡◌, ◌≤◌, ◌↔◌};
+ghost use Rattle.std.specs.Prelude.{◌≡◌, ◌≢◌, ◌≤◌, ◌↔◌};
 ghost use Rattle.asm_io.specs.Outside.{Told, Rose};
 ghost use Rattle.asm_cli.specs.Exit.{OnCode, OnFault};
-ghost use Rattle.asm_cli.specs.Words.{IsBadWords};
-ghost use Rattle.asm_cli.specs.Answer.{answer, OneAnswer, Prints, PrintsPart, HasFileFault, IsDone, IsStopped};
+ghost use Rattle.asm_cli.specs.Words.{IsBadWords, seen};
+ghost use Rattle.asm_cli.specs.Answer.{answer, says_task, OneAnswer, Prints, PrintsPart, HasFileFault, IsDone, IsStopped};
 
 use crate::check::check_model;
 use crate::command::{Task, asked};
@@ -55,10 +55,27 @@ fn command<S: Shelf, K: Sink>(alloc: Global, words: &[Name], shelf: &mut S, sink
     ensures shelf_later { S.faults shelf.old ≤ S.faults shelf.new }
     ensures sink_later { K.faults sink.old ≤ K.faults sink.new }
 {
-    match asked(words) {
-        None => say(sink, b"asmeta: bad arguments\n", 2),
-        Some(Task::Run(run)) => run_model(alloc, run.model, run.steps, shelf, sink),
-        Some(Task::Format(model)) => format_file(alloc, model, shelf, sink),
-        Some(Task::Check(model)) => check_model(alloc, model, shelf, sink),
+    match asked(alloc, words) {
+        Ok(Some(task)) => serve(alloc, task, shelf, sink),
+        Ok(None) => say(sink, b"asmeta: bad arguments\n", 2),
+        Err(_) => Exit::Memory,
+    }
+}
+
+/// Does what is asked.
+fn serve<S: Shelf, K: Sink>(alloc: Global, task: Task<'_>, shelf: &mut S, sink: &mut K) -> Exit
+    ensures answer { Told (S.files shelf.old) (λ files. OnCode result (Prints (K.written sink.old) (K.written sink.new) (says_task (seen task.entry) files))) }
+    ensures prefix { Told (S.files shelf.old) (λ files. OnFault result (PrintsPart (K.written sink.old) (K.written sink.new) (says_task (seen task.entry) files))) }
+    ensures good_words { OnCode result (λ code. code ≢ 2) }
+    ensures read_fault { result ≡ Exit.ReadFault → Rose (S.faults shelf.old) (S.faults shelf.new) }
+    ensures write_fault { result ≡ Exit.WriteFault → Rose (K.faults sink.old) (K.faults sink.new) }
+    ensures files { S.files shelf.new ≡ S.files shelf.old }
+    ensures shelf_later { S.faults shelf.old ≤ S.faults shelf.new }
+    ensures sink_later { K.faults sink.old ≤ K.faults sink.new }
+{
+    match task {
+        Task::Run(run) => run_model(alloc, run, shelf, sink),
+        Task::Format(model) => format_file(alloc, model, shelf, sink),
+        Task::Check(model) => check_model(alloc, model, shelf, sink),
     }
 }

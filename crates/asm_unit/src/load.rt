@@ -115,6 +115,7 @@ pub fn load_all<S: Shelf>(
     ensures added { AddsFiles loading.most_bytes sources.old sources.new }
     ensures units { IfOk result (AreUnits sources.new) }
     ensures fault { IfErr result (IsFault spelled.tree_of sources.new) }
+    ensures few_files { length sources.new ≤ length sources.old + loading.most_files }
 
     // Of the shelf.
     ensures files { S.files shelf.new ≡ S.files shelf.old }

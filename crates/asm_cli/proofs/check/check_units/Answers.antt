@@ -2,13 +2,8 @@ use Rattle.std.proofs.Common.{subst}
 use Rattle.asm_faults.specs.Check.{model_fault}
 use Rattle.asm_resolve.specs.declared.error.ModelError.{ModelError}
 use Rattle.asm_resolve.specs.Resolved.{Tells}
-use Rattle.asm_cli.proofs.Checking.{listed, faultless_said, fault_said}
+use Rattle.asm_cli.proofs.Checking.{faultless_said, fault_said}
 use Rattle.asm_cli.proofs.check.check_units.Goals as goal
-
-pub refuse_model-requires-clause-listed : goal.refuse_model-requires-clause-listed
-refuse_model-requires-clause-listed g c =
-    listed c.args.sources.now c.args.units.now c.in-Err-Fault.kind c.in-Err-Fault.name c.in-Err-Fault.place c.requires.known
-    (subst (λ (e : ModelError). Tells c.args.units.now (model_fault c.args.units.now) e) c.in-Err-Fault.field-0-is c.in-Err-Fault.ensures.fault)
 
 pub returns-in-Ok : goal.returns-in-Ok
 returns-in-Ok g c = faultless_said g.K.Sink.written g.K.Sink.faults c.args.sink.now c.say_counts.new.sink c.args.sources.now c.args.units.now c.say_counts.result c.in-Ok.ensures.faultless c.say_counts.ensures

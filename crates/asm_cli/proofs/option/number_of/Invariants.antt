@@ -1,7 +1,7 @@
 use Rattle.std.proofs.Common.{◌≡◌, ◌≤◌, drop}
 use Rattle.std.specs.Prelude.{fold}
 use Rattle.asm_cli.specs.Words.{with_digit, number_of}
-use Rattle.asm_cli.proofs.command.number_of.Given as goal
+use Rattle.asm_cli.proofs.option.number_of.Given as goal
 
 -- the number so far, with the digits that are left, is the whole
 abbrev pub invariant-digits : goal.invariant-digits

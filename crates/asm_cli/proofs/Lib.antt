@@ -4,3 +4,6 @@ pub mod Loaded
 pub mod Numbers
 pub mod Replying
 pub mod Numbered
+pub mod Serving
+pub mod Renamed
+pub mod Settled

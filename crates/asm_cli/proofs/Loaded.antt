@@ -8,7 +8,7 @@ use Rattle.asm_tree.specs.declared.unit.LoadedUnit.{LoadedUnit}
 use Rattle.asm_unit.specs.declared.error.LoadError.{LoadError}
 use Rattle.asm_unit.specs.declared.error.LoadError.TheVariants.{Absent, TooLong, Read, Lex, Parse, ImportCycle, TooManyFiles}
 use Rattle.asm_unit.specs.declared.error.LoadError.TheVariants as load
-use Rattle.asm_unit.specs.Loading.{Outcome, refused, AddsFiles, AreUnits, most_bytes, Fails}
+use Rattle.asm_unit.specs.Loading.{Outcome, ended, refused, AddsFiles, AreUnits, most_bytes, Fails}
 use Rattle.asm_cli.specs.declared.exit.Exit.{Exit}
 use Rattle.asm_cli.specs.declared.exit.Exit.TheVariants.{Code, ReadFault, WriteFault, Memory}
 use Rattle.asm_cli.specs.Exit.{OnFault}
@@ -57,3 +57,6 @@ units_of sources units listed same are = subst (λ (us : List LoadedUnit). AreUn
 
 pub fails_from : {A : Type 0} → (of : List Source → Outcome A) (before now : List Source) (e : LoadError) → before ≡ [] → Fails (of before) now e → Fails (of []) now e
 fails_from of before now e none f = subst (λ (s : List Source). Fails (of s) now e) none f
+
+pub ends_from : {A : Type 0} → (of : List Source → Outcome A) (before now : List Source) (a : A) → before ≡ [] → of before ≡ ended now a → of [] ≡ ended now a
+ends_from of before now a none f = subst (λ (s : List Source). of s ≡ ended now a) none f

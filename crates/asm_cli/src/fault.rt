@@ -140,7 +140,7 @@ fn is_in_word(byte: u8) -> bool
 }
 
 /// The text of the file of this number.
-fn text_in(sources: &Sources, file: u32) -> &[u8]
+pub fn text_in(sources: &Sources, file: u32) -> &[u8]
     ensures { result.now ≡ text_of sources.now file }
 {
     match sources.item(file as usize) {

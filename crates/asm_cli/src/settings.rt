@@ -9,6 +9,7 @@ ghost use Rattle.avalla_parse.specs.Parsed.{parsed_inputs};
 ghost use Rattle.asm_cli.specs.Answer as spec;
 ghost use Rattle.asm_cli.specs.Words.{name_seen};
 
+use crate::fault::text_in;
 use asm_io::{Place, Shelf, Sources};
 use asm_lex::Token;
 use asm_list::Listed;
@@ -57,10 +58,9 @@ fn settings_of<S: Shelf>(
     ensures files { S.files shelf.new ≡ S.files shelf.old }
     ensures later { S.faults shelf.old ≤ S.faults shelf.new }
 {
-    let file = sources.len();
+    let file = sources.len() as u32;
     let tokens = load_one(alloc, shelf, name, MOST_BYTES, sources)?;
-    let text = sources.slice()[file].text.slice();
-    spelled(alloc, file as u32, text, tokens.slice())
+    spelled(alloc, file, text_in(sources, file), tokens.slice())
 }
 
 /// What the tokens of the text of the file of this number spell.

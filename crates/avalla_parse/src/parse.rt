@@ -1,5 +1,8 @@
 //! The call that reads an input file.
+
 ghost use Rattle.std.specs.Prelude.{◌≡◌, ◌≢◌, ◌<◌, ◌^◌, length, Ok, IfOk, IfErr};
+ghost use Rattle.asm_body.specs.Fronts.{Counts, error_of};
+ghost use Rattle.asm_body.specs.Seen.{all_seen};
 ghost use Rattle.asm_lex.specs.Cut.{cut};
 ghost use Rattle.asm_tree.specs.Scripts as language;
 ghost use Rattle.asm_tree.specs.declared.error.ParseError.{ParseError};
@@ -8,8 +11,12 @@ ghost use Rattle.asm_tree.specs.declared.script.RawInputs.{RawInputs};
 ghost use Rattle.avalla_parse.specs.Parsed.{parsed_inputs, Parses};
 ghost use Rattle.avalla_parse.specs.Script.{IsTree, AgreesWith, Explains, RefusesWith};
 
+use crate::whole::whole_inputs;
+use asm_body::{Lexeme, begins, lexemes};
+use asm_grammar::Stop;
 use asm_lex::Token;
 use asm_tree::ParseError;
+use asm_tree::class::Class;
 use asm_tree::script::RawInputs;
 use std::alloc::Global;
 
@@ -29,5 +36,39 @@ pub fn inputs(alloc: Global, text: &[u8], tokens: &[Token]) -> Result<RawInputs,
     // The same as a function of the text.
     ensures parses { Parses result (parsed_inputs text.now tokens.now) }
 {
-    Err(ParseError::Memory)
+    parsed(alloc, text, tokens)
+}
+
+/// The same as a function of the text alone.
+fn parsed(alloc: Global, text: &[u8], tokens: &[Token]) -> Result<RawInputs, ParseError>
+    requires together { cut text.now ≡ Ok tokens.now }
+    requires small { length text.now < 2 ^ 31 }
+    ensures { Parses result (parsed_inputs text.now tokens.now) }
+{
+    let lexemes = lexemes(alloc, text, tokens)?;
+    let listed = lexemes.as_slice();
+    match whole_inputs(alloc, listed) {
+        Ok(inputs) => Ok(inputs),
+        Err(stop) => Err(explained(listed, stop)),
+    }
+}
+
+/// The error where reading stopped.
+#[tactic(auto, using(asm_body::proofs::Parsing::stops))]
+fn explained(tokens: &[Lexeme], stop: Stop) -> ParseError
+    requires counts { Counts (length tokens.now) stop }
+    requires few { length tokens.now < 2 ^ 31 }
+    ensures { result ≡ error_of (all_seen tokens.now) (length tokens.now) stop }
+{
+    match stop {
+        Stop::Memory => ParseError::Memory,
+        Stop::Syntax(left) => {
+            if begins(&tokens[tokens.len() - left..], Class::Unsupported) {
+                ParseError::Unsupported((tokens.len() - left) as u32)
+            } else {
+                ParseError::Syntax((tokens.len() - left) as u32)
+            }
+        }
+        Stop::TooDeep(left) => ParseError::TooDeep((tokens.len() - left) as u32),
+    }
 }

@@ -9,9 +9,15 @@ use std::rt::Env;
 use std::test::Fail;
 
 /// A model of nine lines.
-fn model(alloc: Global, signature: &str, main: &str, init: &str) -> Result<String, Fail> {
+fn model(
+    alloc: Global,
+    signature: &str,
+    definitions: &str,
+    main: &str,
+    init: &str,
+) -> Result<String, Fail> {
     Ok(format!(in alloc;
-        "asm t\nsignature:\n{signature}\ndefinitions:\n\nmain rule r_Main =\n{main}\ndefault init s0:\n{init}\n"
+        "asm t\nsignature:\n{signature}\ndefinitions:\n{definitions}\nmain rule r_Main =\n{main}\ndefault init s0:\n{init}\n"
     )?)
 }
 
@@ -44,96 +50,273 @@ fn run(alloc: Global, held: &str, texts: &[&str]) -> Result<(Exit, NoFaultSink),
     answer(alloc, &[("t.asm", held.as_bytes())], texts)
 }
 
-/// Signature, main rule, initial values and steps, with the code and what is printed.
-const RUNS: [(&str, &str, &str, &str, u8, &str); 9] = [
-    (
-        "controlled x : Boolean controlled y : Boolean",
-        "par x := y y := x endpar",
-        "function x = true function y = false",
-        "2",
-        0,
-        "state 0\n  x = true\n  y = false\nstate 1\n  x = false\n  y = true\nstate 2\n  x = true\n  y = false\nend\n",
-    ),
-    (
-        "controlled x : Boolean",
-        "skip",
-        "",
-        "0",
-        0,
-        "state 0\n  x = undef\nend\n",
-    ),
-    (
-        "controlled x : Boolean",
-        "par x := true x := true endpar",
-        "",
-        "1",
-        0,
-        "state 0\n  x = undef\nstate 1\n  x = true\nend\n",
-    ),
-    (
-        "controlled x : Boolean",
-        "par x := true x := false endpar",
-        "",
-        "1",
-        4,
-        "state 0\n  x = undef\nstop: clash at x: false and true\n",
-    ),
-    (
-        "controlled x : Boolean",
-        "if x then skip endif",
-        "",
-        "1",
-        4,
-        "state 0\n  x = undef\nstop: undefined guard at t.asm:7:1\n",
-    ),
-    (
-        "controlled load : Boolean",
-        "load := true",
-        "",
-        "1",
-        0,
-        "state 0\n  load = undef\nstate 1\n  load = true\nend\n",
-    ),
-    (
-        "monitored m : Boolean",
-        "skip",
-        "",
-        "0",
-        3,
-        "t.asm: not built yet\n",
-    ),
-    (
-        "controlled x : Boolean controlled x : Boolean",
-        "skip",
-        "",
-        "0",
-        3,
-        "t.asm: not built yet\n",
-    ),
-    (
-        "controlled x : Boolean",
-        "x := y",
-        "",
-        "0",
-        3,
-        "t.asm: not built yet\n",
-    ),
+/// A run of a model, with the input file `in.txt`, the words behind the model's name, the code and what is printed.
+struct RunCase {
+    signature: &'static str,
+    definitions: &'static str,
+    main: &'static str,
+    init: &'static str,
+    inputs: &'static str,
+    words: &'static [&'static str],
+    code: u8,
+    printed: &'static str,
+}
+
+const RUNS: [RunCase; 23] = [
+    RunCase {
+        signature: "controlled x : Boolean controlled y : Boolean",
+        definitions: "",
+        main: "par x := y y := x endpar",
+        init: "function x = true function y = false",
+        inputs: "",
+        words: &["--steps", "2"],
+        code: 0,
+        printed: "state 0\n  x = true\n  y = false\nstate 1\n  x = false\n  y = true\nstate 2\n  x = true\n  y = false\nend\n",
+    },
+    RunCase {
+        signature: "controlled x : Boolean",
+        definitions: "",
+        main: "skip",
+        init: "",
+        inputs: "",
+        words: &[],
+        code: 0,
+        printed: "state 0\n  x = undef\nend\n",
+    },
+    RunCase {
+        signature: "controlled x : Boolean",
+        definitions: "",
+        main: "par x := true x := true endpar",
+        init: "",
+        inputs: "",
+        words: &["--steps", "1"],
+        code: 0,
+        printed: "state 0\n  x = undef\nstate 1\n  x = true\nend\n",
+    },
+    RunCase {
+        signature: "domain D subsetof Integer controlled x : D controlled y : D",
+        definitions: "domain D = {1:3}",
+        main: "par x := 2 x := 1 endpar",
+        init: "function x = 3",
+        inputs: "",
+        words: &["--steps", "1"],
+        code: 4,
+        printed: "state 0\n  x = 3\n  y = undef\nstop: clash at x: 1 and 2\n",
+    },
+    RunCase {
+        signature: "domain D subsetof Integer controlled x : D controlled y : D",
+        definitions: "domain D = {1:3}",
+        main: "seq par x := 1 x := 2 endpar y := 3 endseq",
+        init: "function x = 3",
+        inputs: "",
+        words: &["--steps", "1"],
+        code: 4,
+        printed: "state 0\n  x = 3\n  y = undef\nstop: clash at x: 1 and 2\n",
+    },
+    RunCase {
+        signature: "domain D subsetof Integer controlled x : D controlled y : D",
+        definitions: "domain D = {1:3}",
+        main: "x := x + 1",
+        init: "function x = 3",
+        inputs: "",
+        words: &["--steps", "1"],
+        code: 4,
+        printed: "state 0\n  x = 3\n  y = undef\nstop: bad value 4 for x at t.asm:7:1\n",
+    },
+    RunCase {
+        signature: "domain D subsetof Integer controlled x : D controlled y : D",
+        definitions: "domain D = {1:3}",
+        main: "if y > 1 then x := 1 endif",
+        init: "",
+        inputs: "",
+        words: &["--steps", "1"],
+        code: 4,
+        printed: "state 0\n  x = undef\n  y = undef\nstop: undefined guard at t.asm:7:1\n",
+    },
+    RunCase {
+        signature: "domain D subsetof Integer controlled x : D controlled y : D",
+        definitions: "domain D = {1:3}",
+        main: "choose $v in D do x := $v",
+        init: "",
+        inputs: "",
+        words: &["--steps", "2", "--choices", "7"],
+        code: 4,
+        printed: "state 0\n  x = undef\n  y = undef\nstate 1\n  x = 2\n  y = undef\nstop: no choice word at t.asm:7:1\n",
+    },
+    RunCase {
+        signature: "domain D subsetof Integer controlled x : D controlled y : D",
+        definitions: "domain D = {1:3}",
+        main: "choose $v in D with $v > 3 do x := $v ifnone x := 1",
+        init: "",
+        inputs: "",
+        words: &["--steps", "1"],
+        code: 0,
+        printed: "state 0\n  x = undef\n  y = undef\nstate 1\n  x = 1\n  y = undef\nend\n",
+    },
+    RunCase {
+        signature: "domain D subsetof Integer controlled x : D controlled y : D",
+        definitions: "domain D = {1:3}",
+        main: "let ($v = x) in seq x := x + 1 y := $v endseq endlet",
+        init: "function x = 1",
+        inputs: "",
+        words: &["--steps", "1"],
+        code: 0,
+        printed: "state 0\n  x = 1\n  y = undef\nstate 1\n  x = 2\n  y = 1\nend\n",
+    },
+    RunCase {
+        signature: "domain D subsetof Integer controlled x : D controlled y : D",
+        definitions: "domain D = {1:3} rule r_two($p in D) = seq x := x + 1 y := $p endseq",
+        main: "r_two[x]",
+        init: "function x = 1",
+        inputs: "",
+        words: &["--steps", "1"],
+        code: 0,
+        printed: "state 0\n  x = 1\n  y = undef\nstate 1\n  x = 2\n  y = 2\nend\n",
+    },
+    RunCase {
+        signature: "monitored m : Boolean monitored n : Boolean controlled x : Boolean",
+        definitions: "",
+        main: "x := m and n",
+        init: "",
+        inputs: "set m := true; set n := true; step step",
+        words: &["in.txt"],
+        code: 4,
+        printed: "state 0\n  x = undef\nstate 1\n  x = true\nstop: no input for m\n",
+    },
+    RunCase {
+        signature: "domain D subsetof Integer controlled x : D",
+        definitions: "domain D = {1:3} invariant over x : x < 3",
+        main: "x := x + 1",
+        init: "function x = 1",
+        inputs: "",
+        words: &["--steps", "5"],
+        code: 4,
+        printed: "state 0\n  x = 1\nstate 1\n  x = 2\nstate 2\n  x = 3\nstop: invariant 1\n",
+    },
+    RunCase {
+        signature: "domain D subsetof Integer controlled x : D",
+        definitions: "domain D = {1:3} invariant over x : x < 3",
+        main: "x := x + 1",
+        init: "function x = 3",
+        inputs: "",
+        words: &["--steps", "5"],
+        code: 4,
+        printed: "state 0\n  x = 3\nstop: invariant 1\n",
+    },
+    RunCase {
+        signature: "shared s : Boolean controlled x : Boolean",
+        definitions: "",
+        main: "par x := s s := false endpar",
+        init: "",
+        inputs: "set s := true; step step",
+        words: &["in.txt"],
+        code: 0,
+        printed: "state 0\n  s = undef\n  x = undef\nstate 1\n  s = false\n  x = true\nstate 2\n  s = false\n  x = false\nend\n",
+    },
+    RunCase {
+        signature: "domain D subsetof Integer controlled x : D controlled y : D",
+        definitions: "domain D = {1:3}",
+        main: "skip",
+        init: "function x = 7",
+        inputs: "",
+        words: &[],
+        code: 4,
+        printed: "stop: bad initial value 7 for x\n",
+    },
+    RunCase {
+        signature: "controlled x : Boolean",
+        definitions: "",
+        main: "skip",
+        init: "",
+        inputs: "set x := true; step",
+        words: &["in.txt"],
+        code: 3,
+        printed: "in.txt:1:5: bad set: x\n",
+    },
+    RunCase {
+        signature: "monitored m : Boolean",
+        definitions: "",
+        main: "skip",
+        init: "",
+        inputs: "set m := 1; step",
+        words: &["in.txt"],
+        code: 3,
+        printed: "in.txt:1:5: bad set: m\n",
+    },
+    RunCase {
+        signature: "monitored m : Boolean",
+        definitions: "",
+        main: "skip",
+        init: "",
+        inputs: "set m := true step",
+        words: &["in.txt"],
+        code: 3,
+        printed: "in.txt:1:15: syntax error\n",
+    },
+    RunCase {
+        signature: "monitored m : Boolean",
+        definitions: "",
+        main: "skip",
+        init: "",
+        inputs: "",
+        words: &["none.txt"],
+        code: 3,
+        printed: "none.txt: no such file\n",
+    },
+    RunCase {
+        signature: "enum domain C = {AA, BB} domain D subsetof Integer abstract domain E static ee : E controlled f : Prod(C, D) -> E",
+        definitions: "domain D = {-1, 2}",
+        main: "f(BB, -1) := ee",
+        init: "",
+        inputs: "",
+        words: &["--steps", "1"],
+        code: 0,
+        printed: "state 0\n  f(AA,-1) = undef\n  f(AA,2) = undef\n  f(BB,-1) = undef\n  f(BB,2) = undef\nstate 1\n  f(AA,-1) = undef\n  f(AA,2) = undef\n  f(BB,-1) = ee\n  f(BB,2) = undef\nend\n",
+    },
+    RunCase {
+        signature: "domain D subsetof Integer monitored m : D -> D controlled x : D -> D",
+        definitions: "domain D = {1:2}",
+        main: "forall $d in D do x($d) := m($d)",
+        init: "",
+        inputs: "set m(1) := 2; set m(2) := 1; set m(1) := 1; step",
+        words: &["in.txt"],
+        code: 0,
+        printed: "state 0\n  x(1) = undef\n  x(2) = undef\nstate 1\n  x(1) = 1\n  x(2) = 1\nend\n",
+    },
+    RunCase {
+        signature: "domain D subsetof Integer controlled x : D -> D controlled y : D",
+        definitions: "domain D = {1:3}",
+        main: "x(y) := 1",
+        init: "",
+        inputs: "",
+        words: &["--steps", "1"],
+        code: 4,
+        printed: "state 0\n  x(1) = undef\n  x(2) = undef\n  x(3) = undef\n  y = undef\nstop: bad argument at t.asm:7:1\n",
+    },
 ];
 
 #[test]
 fn each_model_has_its_run(rt: HostRuntime) -> Result<(), Fail> {
     let alloc = rt.alloc();
-    for (signature, main, init, steps, code, printed) in RUNS {
-        let held = model(alloc, signature, main, init)?;
-        let (exit, sink) = run(alloc, &held, &["run", "t.asm", "--steps", steps])?;
-        assert_eq!(rt; exit, Exit::Code(code), "{main}");
-        assert_eq!(rt; sink.bytes(), printed.as_bytes(), "{main}");
+    for case in &RUNS {
+        let held = model(alloc, case.signature, case.definitions, case.main, case.init)?;
+        let files = [
+            ("t.asm", held.as_bytes()),
+            ("in.txt", case.inputs.as_bytes()),
+        ];
+        let mut texts = vec![in alloc; "run", "t.asm"]?;
+        for word in case.words {
+            texts.push(*word)?;
+        }
+        let (exit, sink) = answer(alloc, &files, &texts)?;
+        assert_eq!(rt; exit, Exit::Code(case.code), "{}", case.main);
+        assert_eq!(rt; sink.bytes(), case.printed.as_bytes(), "{}", case.main);
     }
     Ok(())
 }
 
 /// Words, with the code and what is printed over one file `t.asm` that is empty.
-const WORDS: [(&[&str], u8, &str); 16] = [
+const WORDS: [(&[&str], u8, &str); 23] = [
     (&[], 2, "asmeta: bad arguments\n"),
     (&["run"], 2, "asmeta: bad arguments\n"),
     (&["run", ""], 2, "asmeta: bad arguments\n"),
@@ -146,6 +329,41 @@ const WORDS: [(&[&str], u8, &str); 16] = [
         &["run", "t.asm", "--steps", "100001"],
         2,
         "asmeta: bad arguments\n",
+    ),
+    (
+        &["run", "t.asm", "--steps", "1", "--steps", "1"],
+        2,
+        "asmeta: bad arguments\n",
+    ),
+    (
+        &["run", "t.asm", "--choices", "1,,2"],
+        2,
+        "asmeta: bad arguments\n",
+    ),
+    (
+        &["run", "t.asm", "--choices", "4294967296"],
+        2,
+        "asmeta: bad arguments\n",
+    ),
+    (
+        &["run", "t.asm", "--steps", "1", "in.txt"],
+        2,
+        "asmeta: bad arguments\n",
+    ),
+    (
+        &["run", "t.asm", "in.txt", "in.txt"],
+        2,
+        "asmeta: bad arguments\n",
+    ),
+    (
+        &["run", "t.asm", "--budget", "1"],
+        2,
+        "asmeta: bad arguments\n",
+    ),
+    (
+        &["run", "t.asm", "in.txt", "--choices", "0,4294967295", "--steps", "9"],
+        3,
+        "t.asm:1:1: syntax error\n",
     ),
     (&["check"], 2, "asmeta: bad arguments\n"),
     (
@@ -183,8 +401,8 @@ fn each_command_line_has_its_answer(rt: HostRuntime) -> Result<(), Fail> {
     Ok(())
 }
 
-/// A file that has a fault, or is no Boolean model, and the line of its run.
-const FAULTS: [(&str, &str); 26] = [
+/// A file that has a fault, or is no model, and the line of its run.
+const FAULTS: [(&str, &str); 24] = [
     (
         "asm t import u signature: definitions:",
         "u.asm: no such file\n",
@@ -234,15 +452,13 @@ const FAULTS: [(&str, &str); 26] = [
         "asm t signature: definitions: default init s: x",
         "t.asm:1:47: syntax error\n",
     ),
-    ("module t signature: definitions:", "t.asm: not built yet\n"),
-    ("asm t signature: definitions:", "t.asm: not built yet\n"),
     (
-        "asm t import StandardLibrary signature: definitions: main rule r_Main = skip default init s0:",
-        "t.asm: not built yet\n",
+        "module t signature: definitions:",
+        "t.asm:1:8: no main rule: t\n",
     ),
     (
         "asm t signature: definitions: invariant over x : true main rule r_Main = skip default init s0:",
-        "t.asm: not built yet\n",
+        "t.asm:1:46: unknown name: x\n",
     ),
 ];
 
@@ -258,7 +474,7 @@ fn each_fault_of_a_file_has_its_line(rt: HostRuntime) -> Result<(), Fail> {
 }
 
 /// How many bytes of the text below are left, and the column at which the rest is refused; 0 where it is
-/// a unit, but no Boolean model.
+/// a unit without a main rule.
 const CUTS: [(usize, usize); 17] = [
     (0, 1),
     (1, 1),
@@ -288,7 +504,7 @@ fn each_cut_text_has_its_line(rt: HostRuntime) -> Result<(), Fail> {
         let cut = &whole.as_bytes()[..count.min(whole.len())];
         let (exit, sink) = answer(alloc, &[("t.asm", cut)], &["run", "t.asm"])?;
         let printed = if column == 0 {
-            String::from_str(alloc, "t.asm: not built yet\n")?
+            String::from_str(alloc, "t.asm:1:5: no main rule: t\n")?
         } else {
             format!(in alloc; "t.asm:1:{column}: syntax error\n")?
         };
@@ -339,7 +555,7 @@ const IMPORTS: [(&str, &str, &str, &str); 5] = [
         "asm t import u import v signature: definitions:",
         "module u import v signature: definitions:",
         "module v signature: definitions:",
-        "t.asm: not built yet\n",
+        "t.asm:1:5: no main rule: t\n",
     ),
     (
         "asm t import u import w signature: definitions:",
@@ -395,7 +611,7 @@ fn chain(alloc: Global, count: usize) -> Result<(Exit, NoFaultSink), Fail> {
 fn at_most_64_files_are_read(rt: HostRuntime) -> Result<(), Fail> {
     let alloc = rt.alloc();
     for (count, printed) in [
-        (64, "t0.asm: not built yet\n"),
+        (64, "t0.asm:1:5: no main rule: t\n"),
         (65, "t64.asm: too many files\n"),
     ] {
         let (exit, sink) = chain(alloc, count)?;
@@ -739,7 +955,7 @@ fn functions(alloc: Global, count: usize) -> Result<String, Fail> {
 #[test]
 fn each_limit_is_kept(rt: HostRuntime) -> Result<(), Fail> {
     let alloc = rt.alloc();
-    let small = model(alloc, "", "skip", "")?;
+    let small = model(alloc, "", "", "skip", "")?;
     for (count, code) in [(262_144, 0), (262_145, 3)] {
         let mut held = small.clone()?;
         held.push_str(&repeated(alloc, " ", count - held.len().min(count))?)?;
@@ -749,12 +965,12 @@ fn each_limit_is_kept(rt: HostRuntime) -> Result<(), Fail> {
     for (count, code) in [(64, 0), (65, 3)] {
         let begin = repeated(alloc, "par ", count)?;
         let end = repeated(alloc, " endpar", count)?;
-        let held = model(alloc, "", &format!(in alloc; "{begin}skip{end}")?, "")?;
+        let held = model(alloc, "", "", &format!(in alloc; "{begin}skip{end}")?, "")?;
         let (exit, _) = run(alloc, &held, &["run", "t.asm", "--steps", "1"])?;
         assert_eq!(rt; exit, Exit::Code(code), "nested {count} times");
     }
     for (count, code) in [(4096, 0), (4097, 3)] {
-        let held = model(alloc, &functions(alloc, count)?, "skip", "")?;
+        let held = model(alloc, &functions(alloc, count)?, "", "skip", "")?;
         let (exit, _) = run(alloc, &held, &["run", "t.asm", "--steps", "1"])?;
         assert_eq!(rt; exit, Exit::Code(code), "{count} functions");
     }
@@ -769,7 +985,7 @@ fn parentheses_nest_64_deep(rt: HostRuntime) -> Result<(), Fail> {
         (65, "t.asm:7:70: nested too deep\n"),
     ] {
         let rule = format!(in alloc; "x := {}", repeated(alloc, "(", count)?)?;
-        let held = model(alloc, "controlled x : Boolean", &rule, "")?;
+        let held = model(alloc, "controlled x : Boolean", "", &rule, "")?;
         for command in ["run", "format"] {
             let (exit, sink) = run(alloc, &held, &[command, "t.asm"])?;
             assert_eq!(rt; exit, Exit::Code(3), "{count} parentheses");
@@ -782,7 +998,7 @@ fn parentheses_nest_64_deep(rt: HostRuntime) -> Result<(), Fail> {
 #[test]
 fn faults_end_the_call(rt: HostRuntime) -> Result<(), Fail> {
     let alloc = rt.alloc();
-    let held = model(alloc, "controlled x : Boolean", "skip", "")?;
+    let held = model(alloc, "controlled x : Boolean", "", "skip", "")?;
     let words = words(alloc, &["run", "t.asm"])?;
     let mut shelf = MemoryShelf::new(alloc);
     shelf.add(alloc, "t.asm", held.as_bytes())?;

@@ -6,6 +6,8 @@ mod command;
 mod counts;
 mod exit;
 mod fault;
+#[cfg(test)]
+mod fire_tests;
 mod format;
 mod model_fault;
 mod option;

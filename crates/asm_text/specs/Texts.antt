@@ -1,5 +1,5 @@
 -- What is printed of values, locations, states, places and stops.
-use Rattle.std.specs.Prelude.{ℕ, true, false, List, [], ◌∷◌, ◌++◌, map, length, Option, Some, None, slice_get, if◌then◌else◌, codes}
+use Rattle.std.specs.Prelude.{ℕ, zero, suc, true, false, List, [], ◌∷◌, ◌++◌, map, length, Option, Some, None, slice_get, if◌then◌else◌, codes}
 use Rattle.std.specs.Fmt.{decimal, signed_decimal}
 use Rattle.std.specs.List.{flat_map, range_with_len}
 use Rattle.std.specs.Option.{option_map, unwrap_or}
@@ -45,6 +45,11 @@ value_text v (Int z) = signed_decimal z
 value_text v (Elem number rank) = element_name v.domains number rank
 
 -- ---- locations
+
+-- what stands before the text of this number among several
+abbrev pub joint : ℕ → List ℕ
+joint zero = []
+joint (suc index) = codes ","
 
 -- texts with commas between them
 abbrev pub with_commas : List (List ℕ) → List ℕ

@@ -1,6 +1,16 @@
 //! The texts of values, locations, states and stops.
 #![tactic(auto)]
 
-mod print;
+mod location;
+mod place;
+mod state;
+mod stop;
+#[cfg(test)]
+mod tests;
+mod value;
 
-pub use print::{print_location, print_place, print_state, print_stop, print_value};
+pub use location::print_location;
+pub use place::print_place;
+pub use state::print_state;
+pub use stop::print_stop;
+pub use value::print_value;

@@ -1,0 +1,17 @@
+use Rattle.asm_io.proofs.Printing.{appends_front, appends_back, appends_after}
+use Rattle.std.specs.Prelude.{codes}
+use Rattle.asm_text.specs.Texts.{location_text, value_text}
+use Rattle.asm_text.proofs.Pieces.{ends, along, four}
+use Rattle.asm_text.proofs.stop.print_bad_initial.Goals as goal
+
+pub returns-in_err-append_str : goal.returns-in_err-append_str
+returns-in_err-append_str c = along _ _ _ _ _ (four (codes "bad initial value ") (value_text c.args.signature.now c.args.value.now) (codes " for ") (location_text c.args.signature.now c.args.slot)) (ends _ _ _ _ _ c.from_residual.ensures.1 (appends_front _ _ _ _ c.in_err-append_str.ensures.err))
+
+pub returns-in_err-print_value : goal.returns-in_err-print_value
+returns-in_err-print_value c = along _ _ _ _ _ (four (codes "bad initial value ") (value_text c.args.signature.now c.args.value.now) (codes " for ") (location_text c.args.signature.now c.args.slot)) (ends _ _ _ _ _ c.from_residual-in_err-print_value.ensures.1 (appends_back _ _ _ _ _ c.in_ok-append_str.ensures.ok (appends_front _ _ _ _ c.in_err-print_value.ensures.err)))
+
+pub returns-in_err-append_str-2 : goal.returns-in_err-append_str-2
+returns-in_err-append_str-2 c = along _ _ _ _ _ (four (codes "bad initial value ") (value_text c.args.signature.now c.args.value.now) (codes " for ") (location_text c.args.signature.now c.args.slot)) (ends _ _ _ _ _ c.from_residual-in_err-append_str-2.ensures.1 (appends_back _ _ _ _ _ c.in_ok-append_str.ensures.ok (appends_back _ _ _ _ _ c.in_ok-print_value.ensures.ok (appends_front _ _ _ _ c.in_err-append_str-2.ensures.err))))
+
+pub returns : goal.returns
+returns c = along _ _ _ _ _ (four (codes "bad initial value ") (value_text c.args.signature.now c.args.value.now) (codes " for ") (location_text c.args.signature.now c.args.slot)) (appends_after _ _ _ _ _ _ c.in_ok-append_str.ensures.ok (appends_after _ _ _ _ _ _ c.in_ok-print_value.ensures.ok (appends_after _ _ _ _ _ _ c.in_ok-append_str-2.ensures.ok c.print_location.ensures)))

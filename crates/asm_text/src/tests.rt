@@ -1,0 +1,140 @@
+ghost use Rattle.std.specs.Prelude.{◌≡◌, ◌≤◌, [], ◌∷◌, All, IfOk, codes, length, negsuc};
+ghost use Rattle.asm_domain.specs.Universe.{Named, Numbers, numbers_between};
+
+use crate::{print_location, print_state, print_stop, print_value};
+use asm_domain::{Domain, Names, Value};
+use asm_io::{Place, Source, Sources, Text};
+use asm_list::{Listed, Name};
+use asm_node::Stop;
+use asm_sign::{DeclaredDomain, Domains, FunKind, Function, Functions, Signature};
+use asm_state::MapStore;
+use std::alloc::{AllocError, Global};
+use std::test::Fail;
+
+// The enumeration of `AA` and `BB`.
+fn letters(alloc: Global) -> Result<Domain, AllocError>
+    ensures { IfOk result (λ d. d ≡ Named 0 (codes "AA" ∷ codes "BB" ∷ [])) }
+{
+    let first = Name::of(alloc, "AA")?;
+    let second = Name::of(alloc, "BB")?;
+    let names = Names::from_vec(vec![in alloc; first, second]?);
+    match Domain::named(0, names) {
+        Ok(domain) => Ok(domain),
+        Err(_) => Err(AllocError),
+    }
+}
+
+// The numbers -2 and -1.
+fn numbers() -> Result<Domain, AllocError>
+    ensures { IfOk result (λ d. d ≡ Numbers (numbers_between (negsuc 1) (negsuc 0))) }
+{
+    match Domain::range(-2, -1) {
+        Ok(domain) => Ok(domain),
+        Err(_) => Err(AllocError),
+    }
+}
+
+fn function(
+    alloc: Global,
+    name: &str,
+    kind: FunKind,
+    domains: &[u32],
+) -> Result<Function, AllocError>
+    ensures { IfOk result (λ f. (f.kind ≡ kind) × (f.domains ≡ domains.now) × (f.codomain ≡ 0)) }
+{
+    Ok(Function {
+        name: Name::of(alloc, name)?,
+        kind,
+        domains: Listed::from_slice(alloc, domains)?,
+        codomain: 0,
+    })
+}
+
+// A controlled function `f` of a letter and a number, and a monitored one `m` without arguments.
+fn signature_over(alloc: Global, letters: Domain, numbers: Domain) -> Result<Signature, AllocError>
+    requires letters { letters ≡ Named 0 (codes "AA" ∷ codes "BB" ∷ []) }
+    requires numbers { numbers ≡ Numbers (numbers_between (negsuc 1) (negsuc 0)) }
+{
+    let first = DeclaredDomain {
+        name: None,
+        domain: letters,
+    };
+    let second = DeclaredDomain {
+        name: None,
+        domain: numbers,
+    };
+    let domains = Domains::from_vec(vec![in alloc; first, second]?);
+    let two = function(alloc, "f", FunKind::Controlled, &[0, 1])?;
+    let none = function(alloc, "m", FunKind::Monitored, &[])?;
+    let functions = Functions::from_vec(vec![in alloc; two, none]?);
+    Signature::new(alloc, domains, functions)
+}
+
+fn sources_of(alloc: Global) -> Result<Sources, AllocError>
+    ensures { IfOk result (λ sources. All (λ source. length source.text ≤ 1048576) sources) }
+{
+    let name = Name::of(alloc, "a.asm")?;
+    let text = Text::from_slice(alloc, b"par\nbeta")?;
+    let mut sources = Sources::new(alloc);
+    sources.push(Source { name, text })?;
+    Ok(sources)
+}
+
+// The state in which every location is undefined.
+fn first_state(alloc: Global, signature: &Signature) -> Result<Text, AllocError> {
+    let store = MapStore::new(alloc, signature)?;
+    let mut text = Text::new(alloc);
+    print_state(signature, &store, &mut text)?;
+    Ok(text)
+}
+
+#[test]
+fn texts(rt: HostRuntime) -> Result<(), Fail> {
+    let signature = signature_over(rt.alloc(), letters(rt.alloc())?, numbers()?)?;
+    for (value, want) in [
+        (Value::Undef, "undef"),
+        (Value::Bool(true), "true"),
+        (Value::Bool(false), "false"),
+        (Value::Int(-2), "-2"),
+        (Value::Elem(0, 1), "BB"),
+        (Value::Elem(1, 0), ""),
+    ] {
+        let mut text = Text::new(rt.alloc());
+        print_value(&signature, &value, &mut text)?;
+        assert_eq!(rt; text.slice(), want.as_bytes(), "{want}");
+    }
+    for (slot, want) in [(0, "f(AA,-2)"), (3, "f(BB,-1)"), (4, "m"), (5, "")] {
+        let mut text = Text::new(rt.alloc());
+        print_location(&signature, slot, &mut text)?;
+        assert_eq!(rt; text.slice(), want.as_bytes(), "{want}");
+    }
+    let state = "  f(AA,-2) = undef\n  f(AA,-1) = undef\n  f(BB,-2) = undef\n  f(BB,-1) = undef\n";
+    assert_eq!(rt;
+        first_state(rt.alloc(), &signature)?.slice(),
+        state.as_bytes()
+    );
+    let sources = sources_of(rt.alloc())?;
+    for (stop, want) in [
+        (
+            Stop::Clash(0, Value::Elem(0, 0), Value::Elem(0, 1)),
+            "stop: clash at f(AA,-2): AA and BB\n",
+        ),
+        (
+            Stop::BadValue(Place { file: 0, at: 5 }, 3, Value::Int(-7)),
+            "stop: bad value -7 for f(BB,-1) at a.asm:2:2\n",
+        ),
+        (
+            Stop::UndefGuard(Place { file: 0, at: 99 }),
+            "stop: undefined guard at a.asm:2:5\n",
+        ),
+        (
+            Stop::BadArgument(Place { file: 1, at: 0 }),
+            "stop: bad argument at :1:1\n",
+        ),
+    ] {
+        let mut text = Text::new(rt.alloc());
+        print_stop(&signature, &sources, &stop, &mut text)?;
+        assert_eq!(rt; text.slice(), want.as_bytes(), "{want}");
+    }
+    Ok(())
+}

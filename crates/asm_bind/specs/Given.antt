@@ -8,6 +8,7 @@ use Rattle.asm_domain.specs.declared.value.Value.TheVariants as value
 use Rattle.asm_domain.specs.Universe.{Universe, Truths, Numbers, Named}
 use Rattle.asm_sign.specs.declared.function.DeclaredDomain.{DeclaredDomain}
 use Rattle.asm_sign.specs.declared.function.Function.{Function}
+use Rattle.asm_sign.specs.declared.function.FunKind.{FunKind}
 use Rattle.asm_sign.specs.Vocabulary.{Vocabulary}
 use Rattle.asm_node.specs.Machine.{Input, no_input, slot_at, same_name, is_shared, is_monitored}
 use Rattle.asm_node.specs.Values.{is_element}
@@ -54,9 +55,12 @@ elements ds (n ∷ ns) [] = None
 
 -- ---- settings
 
--- the function is monitored or shared, so an input may give its locations values
+-- an input may give values to the locations of a monitored or shared function
+abbrev pub is_asked_kind : FunKind → Truth
+is_asked_kind kind = is_monitored kind || is_shared kind
+
 abbrev pub is_asked : Function → Truth
-is_asked f = is_monitored f.kind || is_shared f.kind
+is_asked f = is_asked_kind f.kind
 
 -- the slot and the value that a setting of this function gives, if its arguments and its value are elements of their domains
 abbrev pub given_to : Vocabulary → RawSet → ℕ → Function → Option (ℕ × Value)
@@ -106,6 +110,11 @@ abbrev pub inputs_of : Vocabulary → RawInputs → Result (List Input) RawName
 inputs_of v raw = step_inputs v raw.steps
 
 -- ---- what calls answer
+
+-- a bad setting of this name is told; of want of memory nothing is said
+abbrev pub IsToldOf : BadSet → RawName → Type 0
+IsToldOf (At at name) of = of ≡ record { at = at; text = name }
+IsToldOf Memory of = Unit {0}
 
 -- the bad setting is told by its place and the text of its name; of want of memory nothing is said
 abbrev pub Tells : {A : Type 0} → BadSet → Result A RawName → Type 0

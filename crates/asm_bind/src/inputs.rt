@@ -1,4 +1,4 @@
-//! Settings as inputs.
+//! The inputs of steps.
 ghost use Rattle.std.specs.Prelude.{All, IfOk};
 ghost use Rattle.asm_node.specs.Model.{machine_of};
 ghost use Rattle.asm_node.specs.Step.{IsInput};
@@ -6,23 +6,33 @@ ghost use Rattle.asm_bind.specs.Given as spec;
 ghost use Rattle.asm_bind.specs.Given.{Binds};
 
 use crate::error::BadSet;
-use asm_domain::Value;
-use asm_node::{Inputs, Model};
-use asm_tree::script::{RawInputs, RawSet};
+use crate::setting::bind_set;
+use asm_node::{Input, Inputs, Model};
+use asm_tree::script::{RawInputStep, RawInputs};
 use std::alloc::Global;
-
-/// The slot and the value that a setting gives. It is bad where its name isn't that of a monitored or shared function,
-/// the number of arguments differs, an argument isn't an element of its domain, or the value isn't one of the codomain.
-pub fn bind_set(alloc: Global, model: &Model, raw: &RawSet) -> Result<(u32, Value), BadSet>
-    ensures { Binds result (spec.given_or_name (machine_of model.now).signature raw.now) }
-{
-    Err(BadSet::Memory)
-}
 
 /// The inputs of steps, or the first bad setting. Of two settings of a location for one step the later one counts.
 pub fn bind_inputs(alloc: Global, model: &Model, raw: &RawInputs) -> Result<Inputs, BadSet>
     ensures binds { Binds result (spec.inputs_of (machine_of model.now).signature raw.now) }
     ensures inputs { IfOk result (All (IsInput (machine_of model.now))) }
 {
-    Err(BadSet::Memory)
+    let mut inputs = Inputs::new(alloc);
+    'steps: for step in raw.steps.slice() {
+        let input = step_input(alloc, model, step)?;
+        inputs.push(input)?;
+    }
+    Ok(inputs)
+}
+
+/// The input of a step, or the first bad setting.
+fn step_input(alloc: Global, model: &Model, step: &RawInputStep) -> Result<Input, BadSet>
+    ensures binds { Binds result (spec.step_input (machine_of model.now).signature step.now) }
+    ensures input { IfOk result (IsInput (machine_of model.now)) }
+{
+    let mut input = Input::new(alloc);
+    'sets: for set in step.sets.slice() {
+        let (slot, value) = bind_set(alloc, model, set)?;
+        input.set(slot, value)?;
+    }
+    Ok(input)
 }

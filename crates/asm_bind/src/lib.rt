@@ -1,8 +1,11 @@
-//! The inputs that an input file gives to the steps of a model.
+//! The inputs that the settings of an input file give to the steps of a model.
 #![tactic(auto)]
 
+mod constant;
 mod error;
 mod inputs;
+mod setting;
 
 pub use error::BadSet;
-pub use inputs::{bind_inputs, bind_set};
+pub use inputs::bind_inputs;
+pub use setting::bind_set;

@@ -1,3 +1,6 @@
+pub mod Codes
 pub mod Fault
+pub mod Held
 pub mod Printed
 pub mod Session
+pub mod Stepping

@@ -40,6 +40,11 @@ abbrev pub go_on : Machine → List Source → Result (State × List ℕ) Stop �
 go_on m sources (Ok p) more = more p.0 p.1
 go_on m sources (Err e) more = stopped m sources e
 
+-- what is printed of a step that is refused, and nothing of one that is made
+abbrev pub stop_of : Machine → List Source → Result (State × List ℕ) Stop → List ℕ
+stop_of m sources (Ok p) = []
+stop_of m sources (Err e) = stop_line m.signature sources e
+
 -- the input of the next step; past the inputs it gives nothing
 abbrev pub first_input : List Input → Input
 first_input [] = no_input

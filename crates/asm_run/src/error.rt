@@ -1,6 +1,7 @@
 //! Why a step isn't made, and why a run isn't printed.
 ghost use Rattle.std.specs.Prelude.{◌≡◌};
 
+use asm_fire::FireError;
 use asm_io::SinkError;
 use asm_node::Stop;
 use std::alloc::AllocError;
@@ -20,6 +21,20 @@ impl From<AllocError> for StepError {
 
     fn from(_error: AllocError) -> StepError {
         StepError::Memory
+    }
+}
+
+impl From<FireError> for StepError {
+    ghost use Rattle.asm_fire.specs.declared.error.FireError.TheVariants as fire;
+    ghost use Rattle.asm_run.specs.Fault.{step_error_of};
+
+    ghost from_gives = { λ f e. e ≡ step_error_of f };
+
+    fn from(error: FireError) -> StepError {
+        match error {
+            FireError::Stop(stop) => StepError::Stop(stop),
+            FireError::Memory => StepError::Memory,
+        }
     }
 }
 

@@ -1,0 +1,5 @@
+pub mod Entering
+pub mod Runs
+pub mod Sharing
+pub mod Takes
+pub mod Truths

@@ -1,5 +1,5 @@
 -- What settings give are inputs.
-use Rattle.std.proofs.Common.{◌≡◌, ◌∙◌, ℕ, cond, Bool as Truth, true, false, ◌&&◌, ◌||◌, not, List, [], ◌∷◌, nat_eq, T, eqb→eq, Option, Some, None, is_some, slice_get, if◌then◌else◌, refl, sym, ap, subst, true≢false}
+use Rattle.std.proofs.Common.{◌≡◌, ◌∙◌, ℕ, cond, Bool as Truth, true, false, ◌&&◌, ◌||◌, not, List, nat_eq, T, eqb→eq, Option, Some, None, slice_get, if◌then◌else◌, refl, sym, ap, subst}
 use Rattle.std.specs.Prelude.{IsTrue}
 use Rattle.std.specs.Option.{option_map}
 use Rattle.std.specs.List.{position}
@@ -10,9 +10,8 @@ use Rattle.asm_domain.specs.declared.value.Value.{Value}
 use Rattle.asm_domain.specs.declared.value.Value.TheVariants as value
 use Rattle.asm_domain.specs.Universe.{Universe, Truths, Numbers, Named}
 use Rattle.asm_sign.specs.declared.function.Function.{Function}
-use Rattle.asm_sign.specs.declared.function.FunKind.{FunKind}
 use Rattle.asm_sign.specs.declared.function.DeclaredDomain.{DeclaredDomain}
-use Rattle.asm_sign.specs.Vocabulary.{Vocabulary, function_at}
+use Rattle.asm_sign.specs.Vocabulary.{function_at}
 use Rattle.asm_node.specs.Machine.{Machine, Input, no_input, slot_at, same_name, has_kind, is_shared, is_monitored}
 use Rattle.asm_node.specs.Values.{is_element, is_undef}
 use Rattle.asm_node.specs.Step.{IsInput, may_have}
@@ -20,7 +19,7 @@ use Rattle.asm_node.proofs.Valued.{function_at_slot}
 use Rattle.asm_tree.specs.declared.script.RawConstant.{RawConstant}
 use Rattle.asm_tree.specs.declared.script.RawConstant.TheVariants as constant
 use Rattle.asm_tree.specs.declared.script.RawSet.{RawSet}
-use Rattle.asm_bind.specs.Given.{and_then, meant, named, element, elements, is_asked, is_asked_kind, given, given_to}
+use Rattle.asm_bind.specs.Given.{and_then, meant, named, element, elements, is_asked, given, given_to}
 
 -- ---- values that are there
 

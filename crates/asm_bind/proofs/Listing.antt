@@ -12,7 +12,7 @@ use Rattle.asm_tree.specs.declared.script.RawSet.{RawSet}
 use Rattle.asm_tree.specs.declared.term.RawName.{RawName}
 use Rattle.asm_bind.specs.declared.error.BadSet.{BadSet}
 use Rattle.asm_bind.specs.declared.error.BadSet.TheVariants.{At, Memory}
-use Rattle.asm_bind.specs.Given.{and_then, element, elements, given, given_or_name, onward, with_sets, step_input, step_inputs, then_all, before_all, Tells, IsToldOf, Binds}
+use Rattle.asm_bind.specs.Given.{and_then, element, elements, given, given_or_name, onward, with_sets, step_input, step_inputs, then_all, before_all, Tells, IsToldOf}
 
 same_some : {A : Type 0} (x y : A) → Some x ≡ Some y → x ≡ y
 same_some x y e = cc

@@ -1,5 +1,5 @@
 -- What the settings of an input file give.
-use Rattle.std.specs.Prelude.{◌≡◌, ℕ, Bool as Truth, true, false, ◌||◌, ◌&&◌, nat_eq, List, [], ◌∷◌, map, Option, Some, None, Result, Ok, Err, slice_get, if◌then◌else◌}
+use Rattle.std.specs.Prelude.{◌≡◌, ℕ, Bool as Truth, ◌||◌, List, [], ◌∷◌, Option, Some, None, Result, Ok, Err, slice_get, if◌then◌else◌}
 use Rattle.std.specs.List.{position}
 use Rattle.std.specs.Option.{option_map}
 use Rattle.std.specs.FinMap as finite
@@ -67,8 +67,8 @@ abbrev pub given_to : Vocabulary → RawSet → ℕ → Function → Option (ℕ
 given_to v set n f =
     if is_asked f
     then and_then (elements v.domains f.domains set.arguments) (λ vs.
-         and_then (element v.domains f.codomain set.value) (λ x.
-         option_map (λ slot. (slot, x)) (slot_at v n vs)))
+    and_then (element v.domains f.codomain set.value) (λ x.
+    option_map (λ slot. (slot, x)) (slot_at v n vs)))
     else None
 
 -- the slot and the value that a setting gives, if it isn't bad

@@ -1,4 +1,4 @@
-use Rattle.std.proofs.Common.{◌≡◌, drop, length}
+use Rattle.std.proofs.Common.{◌≡◌, drop}
 use Rattle.asm_bind.specs.Given.{elements}
 use Rattle.asm_bind.proofs.Listing.{behind}
 use Rattle.asm_bind.proofs.constant.elements.Given as goal

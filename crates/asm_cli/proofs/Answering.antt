@@ -20,7 +20,7 @@ use Rattle.asm_run.specs.declared.run.RunEnd.TheVariants.{Done, Stopped}
 use Rattle.asm_cli.specs.Counts.{counts_of, counts_text}
 use Rattle.asm_cli.specs.Fault.{fault_text, model_fault_text, bad_set_text}
 use Rattle.asm_cli.specs.Words.{Asked, ToRun, ToFormat, ToCheck, Plan, asked_of}
-use Rattle.asm_cli.specs.Answer.{Saying, Says, says_bound, says_given, says_sound, says_run, says_canonical, says_faulted, says_checked, says_end, says_task, says_asked, answer, loaded, alone, settings, settings_for, run_under, set_place, end_code, OneAnswer, IsModel, IsRead, IsFirstFault, model_asked, HasFileFault, EndsIn, IsDone, IsStopped}
+use Rattle.asm_cli.specs.Answer.{Says, says_bound, says_given, says_sound, says_run, says_canonical, says_faulted, says_checked, says_end, says_task, says_asked, answer, loaded, alone, settings, settings_for, run_under, set_place, end_code, OneAnswer, IsModel, IsRead, IsFirstFault, model_asked, HasFileFault, EndsIn, IsDone, IsStopped}
 
 never : {A : Type 0} (x : A) → None ≡ Some x → ⊥
 never x e = cc

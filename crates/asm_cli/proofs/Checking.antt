@@ -1,24 +1,22 @@
 -- What the check of a model prints.
-use Rattle.std.proofs.Common.{◌≡◌, ◌∙◌, ℕ, suc, zero, ◌+◌, ◌-◌, ◌<◌, ◌≤◌, List, [], ◌∷◌, length, map, get_or, slice_get, Option, Some, None, refl, sym, ap, subst, inl, arith}
-use Rattle.std.specs.Option.{option_map, unwrap_or}
+use Rattle.std.proofs.Common.{◌≡◌, ◌∙◌, ℕ, suc, ◌+◌, ◌-◌, ◌≤◌, List, [], ◌∷◌, length, Option, Some, None, refl, sym, ap, subst, inl, arith}
+use Rattle.std.specs.Option.{option_map}
 use Rattle.std.specs.List.{enumerate_from}
 use Rattle.std.proofs.lemmas.List.{length-map}
 use Rattle.asm_io.proofs.Printing.{part_of_none}
 use Rattle.asm_io.specs.declared.sources.Place.{Place}
 use Rattle.asm_io.specs.declared.sources.Source.{Source}
-use Rattle.asm_sign.specs.Vocabulary.{Vocabulary, locations}
+use Rattle.asm_sign.specs.Vocabulary.{locations}
 use Rattle.asm_node.specs.Machine.{Machine}
 use Rattle.asm_tree.specs.declared.unit.LoadedUnit.{LoadedUnit}
-use Rattle.asm_unit.specs.Loading.{AreUnits}
 use Rattle.asm_faults.specs.declared.fault.Fault.{Fault as Found}
 use Rattle.asm_faults.specs.declared.fault.ModelFault.{ModelFault}
-use Rattle.asm_faults.specs.Files.{domains, functions, rules, invariants, DeclaredDomain}
+use Rattle.asm_faults.specs.Files.{domains, functions, rules, invariants}
 use Rattle.asm_faults.specs.FunctionFaults.{signature_of, domains_of, function_of, declared_domain}
 use Rattle.asm_faults.specs.Check.{model_fault}
-use Rattle.asm_faults.specs.Model.{machine_of, macro_of}
 use Rattle.asm_resolve.specs.declared.error.ModelError.{ModelError}
 use Rattle.asm_resolve.specs.declared.error.ModelError.TheVariants.{Fault, Memory}
-use Rattle.asm_resolve.specs.Resolved.{IsModelOf, file_of, told_of}
+use Rattle.asm_resolve.specs.Resolved.{IsModelOf, told_of}
 use Rattle.asm_cli.specs.declared.counts.Counts.{Counts}
 use Rattle.asm_cli.specs.declared.exit.Exit.{Exit}
 use Rattle.asm_cli.specs.declared.exit.Exit.TheVariants as exit

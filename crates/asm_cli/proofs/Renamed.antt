@@ -1,5 +1,5 @@
 -- Machines that mean the same have the same runs.
-use Rattle.std.proofs.Common.{◌≡◌, ◌∙◌, ℕ, zero, suc, ◌+◌, List, [], ◌∷◌, ◌++◌, length, Option, Some, None, Result, Ok, Err, refl, sym, ap, subst}
+use Rattle.std.proofs.Common.{◌≡◌, ◌∙◌, ℕ, zero, suc, ◌+◌, List, ◌++◌, length, Option, Some, None, Result, Ok, Err, refl, sym, ap, subst}
 use Rattle.std.specs.Prelude.{codes}
 use Rattle.std.specs.Fmt.{decimal}
 use Rattle.asm_io.specs.Outside.{Files}
@@ -7,11 +7,11 @@ use Rattle.asm_io.specs.declared.sources.Source.{Source}
 use Rattle.asm_node.specs.declared.stop.Stop.{Stop}
 use Rattle.asm_node.specs.declared.stop.Stop.TheVariants.{Invariant}
 use Rattle.asm_node.specs.Machine.{Machine, State, Input}
-use Rattle.asm_node.specs.Step.{initial, next, broken}
+use Rattle.asm_node.specs.Step.{initial, broken}
 use Rattle.asm_tree.specs.declared.script.RawInputs.{RawInputs}
 use Rattle.asm_tree.specs.declared.term.RawName.{RawName}
 use Rattle.asm_tree.specs.declared.unit.LoadedUnit.{LoadedUnit}
-use Rattle.asm_faults.specs.Model.{IsNumbering, machine_of}
+use Rattle.asm_faults.specs.Model.{IsNumbering}
 use Rattle.asm_unit.specs.declared.error.LoadError.{LoadError}
 use Rattle.asm_bind.specs.Given.{inputs_of}
 use Rattle.asm_renaming.specs.Coded.{code, coded_machine}
@@ -23,7 +23,7 @@ use Rattle.asm_run.specs.declared.run.RunEnd.TheVariants as run_end
 use Rattle.asm_run.specs.Printed.{Printed, after, ended, stopped, numbered_state, unless_broken, go_on, first_input, further_inputs, run_from, begun, run_of}
 use Rattle.asm_cli.specs.declared.exit.Exit.{Exit}
 use Rattle.asm_cli.specs.Words.{Plan}
-use Rattle.asm_cli.specs.Answer.{Saying, SaysRun, says_end, says_bound, says_given, says_settled, settings, run_under, steps_of}
+use Rattle.asm_cli.specs.Answer.{SaysRun, says_end, says_bound, says_given, says_settled, settings, steps_of}
 use Rattle.asm_cli.specs.Reply.{Serves}
 use Rattle.asm_cli.proofs.Replying.{on_code, on_fault, prints_more, part_more}
 

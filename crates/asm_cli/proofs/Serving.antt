@@ -1,5 +1,5 @@
 -- Calls that read from a shelf and print answers.
-use Rattle.std.proofs.Common.{◌≡◌, ◌≢◌, ◌≤◌, ◌∙◌, ℕ, List, [], ◌∷◌, ◌++◌, Option, Some, None, Result, Ok, Err, refl, sym, ap, subst, inl, inr, arith}
+use Rattle.std.proofs.Common.{◌≡◌, ◌≢◌, ◌≤◌, ℕ, List, [], Option, Some, None, Result, Ok, Err, refl, sym, subst, inl, inr, arith}
 use Rattle.std.specs.Option.{option_map}
 use Rattle.asm_io.specs.Outside.{Files, AddsPart, Rose}
 use Rattle.asm_io.specs.declared.sources.Source.{Source}
@@ -13,7 +13,6 @@ use Rattle.asm_unit.specs.declared.error.LoadError.{LoadError}
 use Rattle.asm_unit.specs.declared.error.LoadError.TheVariants.{Absent, TooLong, Read, Lex, Parse, ImportCycle, TooManyFiles}
 use Rattle.asm_unit.specs.declared.error.LoadError.TheVariants as load
 use Rattle.asm_unit.specs.Loading.{Outcome, ended, refused, Fails, OnRead}
-use Rattle.asm_bind.specs.declared.error.BadSet.{BadSet}
 use Rattle.asm_bind.specs.declared.error.BadSet.TheVariants as bad
 use Rattle.asm_bind.specs.Given.{inputs_of, Tells as TellsSet}
 use Rattle.asm_faults.specs.declared.fault.Fault.{Fault as Found}
@@ -21,7 +20,7 @@ use Rattle.asm_faults.specs.declared.fault.ModelFault.{ModelFault}
 use Rattle.asm_faults.specs.Check.{model_fault}
 use Rattle.asm_resolve.specs.declared.error.ModelError.{ModelError}
 use Rattle.asm_resolve.specs.declared.error.ModelError.TheVariants.{Fault, Memory}
-use Rattle.asm_resolve.specs.Resolved.{told_of, file_of}
+use Rattle.asm_resolve.specs.Resolved.{told_of}
 use Rattle.asm_run.specs.declared.run.RunEnd.{RunEnd}
 use Rattle.asm_run.specs.declared.run.RunEnd.TheVariants.{Done, Stopped}
 use Rattle.asm_cli.specs.declared.exit.Exit.{Exit}
@@ -29,7 +28,7 @@ use Rattle.asm_cli.specs.declared.exit.Exit.TheVariants as ends
 use Rattle.asm_cli.specs.Exit.{OnCode, OnFault}
 use Rattle.asm_cli.specs.Fault.{fault_text, model_fault_text, bad_set_text}
 use Rattle.asm_cli.specs.Words.{Plan}
-use Rattle.asm_cli.specs.Answer.{Saying, Says, SaysRun, Prints, PrintsPart, says_end, says_outcome, says_bound, says_given, says_sound, says_run, set_place, end_code}
+use Rattle.asm_cli.specs.Answer.{Saying, Says, Prints, PrintsPart, says_outcome, says_bound, says_given, says_sound, says_run, set_place, end_code}
 use Rattle.asm_cli.specs.Reply.{Replies, Refuses, EndsQuiet, Serves}
 use Rattle.asm_cli.proofs.Replying.{on_code, on_fault}
 

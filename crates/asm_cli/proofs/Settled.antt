@@ -1,12 +1,12 @@
 -- What the tokens of an input file spell.
-use Rattle.std.proofs.Common.{◌≡◌, ◌≢◌, ◌∙◌, ℕ, List, [], ◌∷◌, Result, Ok, Err, refl, sym, ap, subst}
+use Rattle.std.proofs.Common.{◌≡◌, ◌≢◌, ℕ, List, Result, Ok, Err, sym, ap, subst}
 use Rattle.asm_io.specs.Spots.{text_of}
 use Rattle.asm_io.specs.declared.sources.Source.{Source}
 use Rattle.asm_lex.specs.declared.token.Token.{Token}
 use Rattle.asm_tree.specs.declared.script.RawInputs.{RawInputs}
 use Rattle.asm_unit.specs.declared.error.LoadError.{LoadError}
 use Rattle.asm_unit.specs.declared.error.LoadError.TheVariants.{Absent, TooLong, Read, Lex, Parse, ImportCycle, TooManyFiles, Memory}
-use Rattle.asm_unit.specs.Loading.{Outcome, ended, refused, Follows, Fails, Judges}
+use Rattle.asm_unit.specs.Loading.{Outcome, ended, Follows, Fails, Judges}
 use Rattle.asm_unit.proofs.Outcomes.{front_same}
 use Rattle.avalla_parse.specs.Parsed.{parsed_inputs}
 use Rattle.asm_cli.specs.Answer.{spelled, settings_of}

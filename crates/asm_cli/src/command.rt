@@ -109,12 +109,7 @@ fn run_with<'a>(
     }
 }
 
-fn planned<'a>(
-    alloc: Global,
-    model: &'a str,
-    inputs: Option<&'a str>,
-    options: Options,
-) -> Task<'a>
+fn planned<'a>(alloc: Global, model: &'a str, inputs: Option<&'a str>, options: Options) -> Task<'a>
     ensures { seen result ≡ spec.planned model.now (name_seen inputs.entry) (options_seen options) }
 {
     let Options { steps, choices } = options;

@@ -111,7 +111,11 @@ fn model_of(alloc: Global, held: &str) -> Result<Option<Model>, AllocError> {
 }
 
 /// What the main rule gives in the initial state, where there is one.
-fn fire_main(alloc: Global, model: &Model, words: &mut Words) -> Option<Result<Updates, FireError>> {
+fn fire_main(
+    alloc: Global,
+    model: &Model,
+    words: &mut Words,
+) -> Option<Result<Updates, FireError>> {
     let Ok(store) = initial(alloc, model) else {
         return None;
     };
@@ -141,7 +145,10 @@ fn each_main_rule_gives_its_set(rt: HostRuntime) -> Result<(), Fail> {
             "asm t signature: domain D subsetof Integer controlled x : D controlled y : D definitions: domain D = {{1:3}} {} main rule r_Main = ",
             case.definitions
         )?;
-        let held = format!(in alloc; "{front}{} default init s0: function x = {}", case.main, case.x)?;
+        let held = format!(in alloc;
+            "{front}{} default init s0: function x = {}",
+            case.main, case.x
+        )?;
         let at = front.len().min(1 << 20) as u32;
         let Some(model) = model_of(alloc, &held)? else {
             assert!(rt; false, "{held}");
@@ -151,7 +158,10 @@ fn each_main_rule_gives_its_set(rt: HostRuntime) -> Result<(), Fail> {
         let fired = fire_main(alloc, &model, &mut words);
         assert!(rt; fired.is_some(), "{held}");
         if let Some(result) = &fired {
-            assert!(rt; is_wanted(result, case.wanted, Place { file: 0, at }), "{held}");
+            assert!(rt;
+                is_wanted(result, case.wanted, Place { file: 0, at }),
+                "{held}"
+            );
         }
         assert_eq!(rt; words.taken(), case.taken, "{held}");
     }

@@ -64,12 +64,7 @@ fn settings_of<S: Shelf>(
 }
 
 /// What the tokens of the text of the file of this number spell.
-fn spelled(
-    alloc: Global,
-    file: u32,
-    text: &[u8],
-    tokens: &[Token],
-) -> Result<RawInputs, LoadError>
+fn spelled(alloc: Global, file: u32, text: &[u8], tokens: &[Token]) -> Result<RawInputs, LoadError>
     requires together { cut text.now ≡ Ok tokens.now }
     requires small { length text.now < 2 ^ 31 }
     ensures { Judges result (spec.spelled file text.now tokens.now (parsed_inputs text.now tokens.now)) }

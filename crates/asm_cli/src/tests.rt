@@ -299,7 +299,13 @@ const RUNS: [RunCase; 23] = [
 fn each_model_has_its_run(rt: HostRuntime) -> Result<(), Fail> {
     let alloc = rt.alloc();
     for case in &RUNS {
-        let held = model(alloc, case.signature, case.definitions, case.main, case.init)?;
+        let held = model(
+            alloc,
+            case.signature,
+            case.definitions,
+            case.main,
+            case.init,
+        )?;
         let files = [
             ("t.asm", held.as_bytes()),
             ("in.txt", case.inputs.as_bytes()),
@@ -361,7 +367,15 @@ const WORDS: [(&[&str], u8, &str); 23] = [
         "asmeta: bad arguments\n",
     ),
     (
-        &["run", "t.asm", "in.txt", "--choices", "0,4294967295", "--steps", "9"],
+        &[
+            "run",
+            "t.asm",
+            "in.txt",
+            "--choices",
+            "0,4294967295",
+            "--steps",
+            "9",
+        ],
         3,
         "t.asm:1:1: syntax error\n",
     ),

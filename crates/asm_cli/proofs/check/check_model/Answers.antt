@@ -2,7 +2,7 @@ use Rattle.std.proofs.Common.{List}
 use Rattle.asm_io.specs.declared.sources.Source.{Source}
 use Rattle.asm_unit.specs.Loading.{units_in}
 use Rattle.asm_cli.specs.Answer.{loaded, says_checked}
-use Rattle.asm_cli.proofs.Loaded.{err_prefix, fails_from, all_short, units_of}
+use Rattle.asm_cli.proofs.Loaded.{err_prefix, fails_from, all_short}
 use Rattle.asm_cli.proofs.check.check_model.Goals as goal
 
 pub check_units-requires-clause-known : goal.check_units-requires-clause-known

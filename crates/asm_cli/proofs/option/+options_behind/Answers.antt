@@ -1,4 +1,4 @@
-use Rattle.std.proofs.Common.{rules, subst, ◌≡◌, IfOk, option_map, List, ℕ, ◌∷◌, Option, Some}
+use Rattle.std.proofs.Common.{rules, subst, ◌≡◌, IfOk, option_map, ◌∷◌, Option, Some}
 use Rattle.asm_cli.specs.Words.{Options, options_seen, with_option}
 use Rattle.asm_cli.proofs.Numbered.{option_met}
 use Rattle.asm_cli.proofs.option.+options_behind.Goals as goal

@@ -1,7 +1,7 @@
-use Rattle.std.proofs.Common.{◌≡◌, ◌∙◌, List, sym, subst}
+use Rattle.std.proofs.Common.{◌∙◌, List, sym, subst}
 use Rattle.asm_io.specs.declared.sources.Source.{Source}
 use Rattle.asm_tree.specs.declared.unit.LoadedUnit.{LoadedUnit}
-use Rattle.asm_unit.specs.Loading.{Outcome, ended, units_in}
+use Rattle.asm_unit.specs.Loading.{Outcome, units_in}
 use Rattle.asm_cli.specs.Exit.{OnCode, OnFault}
 use Rattle.asm_cli.specs.Answer.{loaded, Prints, PrintsPart, says_run, says_outcome}
 use Rattle.asm_cli.specs.Words.{plan_seen}

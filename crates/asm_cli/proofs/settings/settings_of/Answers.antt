@@ -1,4 +1,4 @@
-use Rattle.std.proofs.Common.{◌≡◌, ℕ, List, sym, subst}
+use Rattle.std.proofs.Common.{ℕ, List, subst}
 use Rattle.asm_lex.specs.declared.token.Token.{Token}
 use Rattle.asm_unit.specs.Loading.{Follows, Judges, tokens_in}
 use Rattle.avalla_parse.specs.Parsed.{parsed_inputs}

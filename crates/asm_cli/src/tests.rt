@@ -50,7 +50,7 @@ fn run(alloc: Global, held: &str, texts: &[&str]) -> Result<(Exit, NoFaultSink),
     answer(alloc, &[("t.asm", held.as_bytes())], texts)
 }
 
-/// A run of a model, with the input file `in.txt`, the words behind the model's name, the code and what is printed.
+/// A model, with the input file `in.txt`, the words of a command, the code and what is printed.
 struct RunCase {
     signature: &'static str,
     definitions: &'static str,
@@ -69,7 +69,7 @@ const RUNS: [RunCase; 23] = [
         main: "par x := y y := x endpar",
         init: "function x = true function y = false",
         inputs: "",
-        words: &["--steps", "2"],
+        words: &["run", "t.asm", "--steps", "2"],
         code: 0,
         printed: "state 0\n  x = true\n  y = false\nstate 1\n  x = false\n  y = true\nstate 2\n  x = true\n  y = false\nend\n",
     },
@@ -79,7 +79,7 @@ const RUNS: [RunCase; 23] = [
         main: "skip",
         init: "",
         inputs: "",
-        words: &[],
+        words: &["run", "t.asm"],
         code: 0,
         printed: "state 0\n  x = undef\nend\n",
     },
@@ -89,7 +89,7 @@ const RUNS: [RunCase; 23] = [
         main: "par x := true x := true endpar",
         init: "",
         inputs: "",
-        words: &["--steps", "1"],
+        words: &["run", "t.asm", "--steps", "1"],
         code: 0,
         printed: "state 0\n  x = undef\nstate 1\n  x = true\nend\n",
     },
@@ -99,7 +99,7 @@ const RUNS: [RunCase; 23] = [
         main: "par x := 2 x := 1 endpar",
         init: "function x = 3",
         inputs: "",
-        words: &["--steps", "1"],
+        words: &["run", "t.asm", "--steps", "1"],
         code: 4,
         printed: "state 0\n  x = 3\n  y = undef\nstop: clash at x: 1 and 2\n",
     },
@@ -109,7 +109,7 @@ const RUNS: [RunCase; 23] = [
         main: "seq par x := 1 x := 2 endpar y := 3 endseq",
         init: "function x = 3",
         inputs: "",
-        words: &["--steps", "1"],
+        words: &["run", "t.asm", "--steps", "1"],
         code: 4,
         printed: "state 0\n  x = 3\n  y = undef\nstop: clash at x: 1 and 2\n",
     },
@@ -119,7 +119,7 @@ const RUNS: [RunCase; 23] = [
         main: "x := x + 1",
         init: "function x = 3",
         inputs: "",
-        words: &["--steps", "1"],
+        words: &["run", "t.asm", "--steps", "1"],
         code: 4,
         printed: "state 0\n  x = 3\n  y = undef\nstop: bad value 4 for x at t.asm:7:1\n",
     },
@@ -129,7 +129,7 @@ const RUNS: [RunCase; 23] = [
         main: "if y > 1 then x := 1 endif",
         init: "",
         inputs: "",
-        words: &["--steps", "1"],
+        words: &["run", "t.asm", "--steps", "1"],
         code: 4,
         printed: "state 0\n  x = undef\n  y = undef\nstop: undefined guard at t.asm:7:1\n",
     },
@@ -139,7 +139,7 @@ const RUNS: [RunCase; 23] = [
         main: "choose $v in D do x := $v",
         init: "",
         inputs: "",
-        words: &["--steps", "2", "--choices", "7"],
+        words: &["run", "t.asm", "--steps", "2", "--choices", "7"],
         code: 4,
         printed: "state 0\n  x = undef\n  y = undef\nstate 1\n  x = 2\n  y = undef\nstop: no choice word at t.asm:7:1\n",
     },
@@ -149,7 +149,7 @@ const RUNS: [RunCase; 23] = [
         main: "choose $v in D with $v > 3 do x := $v ifnone x := 1",
         init: "",
         inputs: "",
-        words: &["--steps", "1"],
+        words: &["run", "t.asm", "--steps", "1"],
         code: 0,
         printed: "state 0\n  x = undef\n  y = undef\nstate 1\n  x = 1\n  y = undef\nend\n",
     },
@@ -159,7 +159,7 @@ const RUNS: [RunCase; 23] = [
         main: "let ($v = x) in seq x := x + 1 y := $v endseq endlet",
         init: "function x = 1",
         inputs: "",
-        words: &["--steps", "1"],
+        words: &["run", "t.asm", "--steps", "1"],
         code: 0,
         printed: "state 0\n  x = 1\n  y = undef\nstate 1\n  x = 2\n  y = 1\nend\n",
     },
@@ -169,7 +169,7 @@ const RUNS: [RunCase; 23] = [
         main: "r_two[x]",
         init: "function x = 1",
         inputs: "",
-        words: &["--steps", "1"],
+        words: &["run", "t.asm", "--steps", "1"],
         code: 0,
         printed: "state 0\n  x = 1\n  y = undef\nstate 1\n  x = 2\n  y = 2\nend\n",
     },
@@ -179,7 +179,7 @@ const RUNS: [RunCase; 23] = [
         main: "x := m and n",
         init: "",
         inputs: "set m := true; set n := true; step step",
-        words: &["in.txt"],
+        words: &["run", "t.asm", "in.txt"],
         code: 4,
         printed: "state 0\n  x = undef\nstate 1\n  x = true\nstop: no input for m\n",
     },
@@ -189,7 +189,7 @@ const RUNS: [RunCase; 23] = [
         main: "x := x + 1",
         init: "function x = 1",
         inputs: "",
-        words: &["--steps", "5"],
+        words: &["run", "t.asm", "--steps", "5"],
         code: 4,
         printed: "state 0\n  x = 1\nstate 1\n  x = 2\nstate 2\n  x = 3\nstop: invariant 1\n",
     },
@@ -199,7 +199,7 @@ const RUNS: [RunCase; 23] = [
         main: "x := x + 1",
         init: "function x = 3",
         inputs: "",
-        words: &["--steps", "5"],
+        words: &["run", "t.asm", "--steps", "5"],
         code: 4,
         printed: "state 0\n  x = 3\nstop: invariant 1\n",
     },
@@ -209,7 +209,7 @@ const RUNS: [RunCase; 23] = [
         main: "par x := s s := false endpar",
         init: "",
         inputs: "set s := true; step step",
-        words: &["in.txt"],
+        words: &["run", "t.asm", "in.txt"],
         code: 0,
         printed: "state 0\n  s = undef\n  x = undef\nstate 1\n  s = false\n  x = true\nstate 2\n  s = false\n  x = false\nend\n",
     },
@@ -219,7 +219,7 @@ const RUNS: [RunCase; 23] = [
         main: "skip",
         init: "function x = 7",
         inputs: "",
-        words: &[],
+        words: &["run", "t.asm"],
         code: 4,
         printed: "stop: bad initial value 7 for x\n",
     },
@@ -229,7 +229,7 @@ const RUNS: [RunCase; 23] = [
         main: "skip",
         init: "",
         inputs: "set x := true; step",
-        words: &["in.txt"],
+        words: &["run", "t.asm", "in.txt"],
         code: 3,
         printed: "in.txt:1:5: bad set: x\n",
     },
@@ -239,7 +239,7 @@ const RUNS: [RunCase; 23] = [
         main: "skip",
         init: "",
         inputs: "set m := 1; step",
-        words: &["in.txt"],
+        words: &["run", "t.asm", "in.txt"],
         code: 3,
         printed: "in.txt:1:5: bad set: m\n",
     },
@@ -249,7 +249,7 @@ const RUNS: [RunCase; 23] = [
         main: "skip",
         init: "",
         inputs: "set m := true step",
-        words: &["in.txt"],
+        words: &["run", "t.asm", "in.txt"],
         code: 3,
         printed: "in.txt:1:15: syntax error\n",
     },
@@ -259,7 +259,7 @@ const RUNS: [RunCase; 23] = [
         main: "skip",
         init: "",
         inputs: "",
-        words: &["none.txt"],
+        words: &["run", "t.asm", "none.txt"],
         code: 3,
         printed: "none.txt: no such file\n",
     },
@@ -269,7 +269,7 @@ const RUNS: [RunCase; 23] = [
         main: "f(BB, -1) := ee",
         init: "",
         inputs: "",
-        words: &["--steps", "1"],
+        words: &["run", "t.asm", "--steps", "1"],
         code: 0,
         printed: "state 0\n  f(AA,-1) = undef\n  f(AA,2) = undef\n  f(BB,-1) = undef\n  f(BB,2) = undef\nstate 1\n  f(AA,-1) = undef\n  f(AA,2) = undef\n  f(BB,-1) = ee\n  f(BB,2) = undef\nend\n",
     },
@@ -279,7 +279,7 @@ const RUNS: [RunCase; 23] = [
         main: "forall $d in D do x($d) := m($d)",
         init: "",
         inputs: "set m(1) := 2; set m(2) := 1; set m(1) := 1; step",
-        words: &["in.txt"],
+        words: &["run", "t.asm", "in.txt"],
         code: 0,
         printed: "state 0\n  x(1) = undef\n  x(2) = undef\nstate 1\n  x(1) = 1\n  x(2) = 1\nend\n",
     },
@@ -289,32 +289,35 @@ const RUNS: [RunCase; 23] = [
         main: "x(y) := 1",
         init: "",
         inputs: "",
-        words: &["--steps", "1"],
+        words: &["run", "t.asm", "--steps", "1"],
         code: 4,
         printed: "state 0\n  x(1) = undef\n  x(2) = undef\n  x(3) = undef\n  y = undef\nstop: bad argument at t.asm:7:1\n",
     },
 ];
 
+/// How the command of a case ends, and what it prints.
+fn answer_of(alloc: Global, case: &RunCase) -> Result<(Exit, NoFaultSink), Fail> {
+    let held = model(
+        alloc,
+        case.signature,
+        case.definitions,
+        case.main,
+        case.init,
+    )?;
+    let mut shelf = NoFaultShelf::new(alloc);
+    shelf.add(alloc, "t.asm", held.as_bytes())?;
+    shelf.add(alloc, "in.txt", case.inputs.as_bytes())?;
+    let mut sink = NoFaultSink::new(alloc);
+    let words = words(alloc, case.words)?;
+    let exit = asmeta(alloc, &words, &mut shelf, &mut sink);
+    Ok((exit, sink))
+}
+
 #[test]
 fn each_model_has_its_run(rt: HostRuntime) -> Result<(), Fail> {
     let alloc = rt.alloc();
     for case in &RUNS {
-        let held = model(
-            alloc,
-            case.signature,
-            case.definitions,
-            case.main,
-            case.init,
-        )?;
-        let files = [
-            ("t.asm", held.as_bytes()),
-            ("in.txt", case.inputs.as_bytes()),
-        ];
-        let mut texts = vec![in alloc; "run", "t.asm"]?;
-        for word in case.words {
-            texts.push(*word)?;
-        }
-        let (exit, sink) = answer(alloc, &files, &texts)?;
+        let (exit, sink) = answer_of(alloc, case)?;
         assert_eq!(rt; exit, Exit::Code(case.code), "{}", case.main);
         assert_eq!(rt; sink.bytes(), case.printed.as_bytes(), "{}", case.main);
     }

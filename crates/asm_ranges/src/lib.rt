@@ -4,10 +4,10 @@
 mod domain;
 mod files;
 mod intervals;
-mod rule;
+pub mod rule;
 mod scope;
 mod spread;
-mod term;
+pub mod term;
 
 pub use files::ranges;
 pub use intervals::Intervals;

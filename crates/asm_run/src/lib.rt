@@ -9,5 +9,6 @@ mod run;
 mod session;
 
 pub use error::{OutError, StepError};
+pub use print::{print_state, print_stop};
 pub use run::{RunEnd, print_run, print_run_from};
 pub use session::Session;

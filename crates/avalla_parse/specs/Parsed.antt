@@ -7,6 +7,7 @@ use Rattle.asm_grammar.specs.Whole.{whole_at}
 use Rattle.asm_tree.specs.declared.error.ParseError.{ParseError}
 use Rattle.asm_tree.specs.declared.error.ParseError.TheVariants.{Memory}
 use Rattle.asm_tree.specs.declared.script.RawInputs.{RawInputs}
+use Rattle.asm_tree.specs.declared.script.RawScenario.{RawScenario}
 use Rattle.asm_tree.specs.Language.{TokenText, models}
 use Rattle.asm_tree.specs.Rules.{body}
 use Rattle.asm_tree.specs.Scripts as language
@@ -24,6 +25,10 @@ parsed whole text tokens = parse_of (token_texts text tokens) (whole_at models (
 -- the same for input files
 abbrev pub parsed_inputs : List ℕ → List Token → Result RawInputs ParseError
 parsed_inputs text tokens = parsed language.inputs text tokens
+
+-- the same for scenarios
+abbrev pub parsed_scenario : List ℕ → List Token → Result RawScenario ParseError
+parsed_scenario text tokens = parsed language.scenario text tokens
 
 -- It is that answer, unless memory ran out.
 abbrev pub Parses : {A : Type 0} → Result A ParseError → Result A ParseError → Type 0

@@ -1,6 +1,8 @@
 //! Reads the tokens of input files and of scenarios into their trees.
 #![tactic(auto)]
 
+mod block;
+mod command;
 mod constant;
 mod laws;
 mod parse;
@@ -9,4 +11,4 @@ mod step;
 mod whole;
 
 pub use laws::parsed_is_spelled;
-pub use parse::inputs;
+pub use parse::{inputs, scenario};

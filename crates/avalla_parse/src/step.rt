@@ -17,7 +17,7 @@ use std::alloc::Global;
 
 /// The tokens behind a `;`, where one stands there.
 #[tactic(auto, unfolding(asm_tree::specs::Scripts::semicolon))]
-fn semicolon(tokens: &[Lexeme]) -> Result<&[Lexeme], Stop>
+pub fn semicolon(tokens: &[Lexeme]) -> Result<&[Lexeme], Stop>
     ensures { Gives models (λ x. (tt, all_seen x.now)) result (read_flat scripts.semicolon (all_seen tokens.now)) }
 {
     if begins(tokens, Class::Semicolon) {

@@ -4,13 +4,13 @@ use Rattle.avalla_parse.proofs.Verdicts.{gives_tree, gives_only, gives_refused, 
 use Rattle.avalla_parse.proofs.parse.inputs.Goals as goal
 
 pub returns-clause-found : goal.returns-clause-found
-returns-clause-found c = gives_tree scripts.inputs checked_inputs c.args.text.now c.args.tokens.now c.parsed.result c.parsed.ensures
+returns-clause-found c = gives_tree scripts.inputs checked_inputs c.args.text.now c.args.tokens.now c.read_inputs.result c.read_inputs.ensures
 
 pub returns-clause-only : goal.returns-clause-only
-returns-clause-only c = λ y s. gives_only scripts.inputs checked_inputs c.args.text.now c.args.tokens.now c.parsed.result c.parsed.ensures y s
+returns-clause-only c = λ y s. gives_only scripts.inputs checked_inputs c.args.text.now c.args.tokens.now c.read_inputs.result c.read_inputs.ensures y s
 
 pub returns-clause-refused : goal.returns-clause-refused
-returns-clause-refused c = gives_refused scripts.inputs checked_inputs c.args.text.now c.args.tokens.now c.parsed.result c.parsed.ensures
+returns-clause-refused c = gives_refused scripts.inputs checked_inputs c.args.text.now c.args.tokens.now c.read_inputs.result c.read_inputs.ensures
 
 pub returns-clause-refuses : goal.returns-clause-refuses
-returns-clause-refuses c = λ e ne x. gives_refuses scripts.inputs checked_inputs c.args.text.now c.args.tokens.now c.parsed.result c.parsed.ensures e ne x
+returns-clause-refuses c = λ e ne x. gives_refuses scripts.inputs checked_inputs c.args.text.now c.args.tokens.now c.read_inputs.result c.read_inputs.ensures e ne x

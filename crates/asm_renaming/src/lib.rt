@@ -3,4 +3,4 @@
 
 mod laws;
 
-pub use laws::numbers_are_free;
+pub use laws::{numbers_are_free, script_numbers_are_free};

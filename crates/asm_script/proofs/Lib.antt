@@ -1,0 +1,7 @@
+mod Answering
+mod Calling
+mod Few
+mod Making
+mod Passing
+mod Sound
+mod Tabling

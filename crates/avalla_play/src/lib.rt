@@ -1,0 +1,17 @@
+//! Plays of scenarios over a model, and what they print.
+#![tactic(auto)]
+
+mod acting;
+mod checking;
+mod command;
+mod context;
+mod judging;
+mod lines;
+mod playing;
+mod stage;
+mod stepping;
+mod telling;
+mod until;
+
+pub use command::{Command, Play};
+pub use playing::{Played, play};

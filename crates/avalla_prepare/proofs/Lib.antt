@@ -1,0 +1,6 @@
+mod Adding
+mod Walking
+mod Naming
+mod Counting
+mod Commands
+mod Growing

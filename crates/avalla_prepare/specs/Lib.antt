@@ -1,0 +1,3 @@
+pub mod Scenario
+pub mod Prepared
+pub mod Parts

@@ -4,6 +4,8 @@ pub mod Loaded
 pub mod Numbers
 pub mod Replying
 pub mod Numbered
+pub mod Played
 pub mod Serving
+pub mod Staged
 pub mod Renamed
 pub mod Settled

@@ -1,10 +1,10 @@
 -- Calls that read from a shelf and print answers.
-use Rattle.std.proofs.Common.{◌≡◌, ◌≢◌, ◌≤◌, ℕ, List, [], Option, Some, None, Result, Ok, Err, refl, sym, subst, inl, inr, arith}
+use Rattle.std.proofs.Common.{◌≡◌, ◌≢◌, ◌≤◌, ◌∙◌, ℕ, List, [], Option, Some, None, Result, Ok, Err, refl, sym, subst, inl, inr, arith}
 use Rattle.std.specs.Option.{option_map}
 use Rattle.asm_io.specs.Outside.{Files, AddsPart, Rose}
 use Rattle.asm_io.specs.declared.sources.Source.{Source}
 use Rattle.asm_io.specs.declared.sources.Place.{Place}
-use Rattle.asm_io.proofs.Printing.{part_of_none}
+use Rattle.asm_io.proofs.Printing.{part_of_none, rose_after}
 use Rattle.asm_node.specs.Machine.{Machine, Input}
 use Rattle.asm_tree.specs.declared.script.RawInputs.{RawInputs}
 use Rattle.asm_tree.specs.declared.term.RawName.{RawName}
@@ -30,7 +30,7 @@ use Rattle.asm_cli.specs.Fault.{fault_text, model_fault_text, bad_set_text}
 use Rattle.asm_cli.specs.Words.{Plan}
 use Rattle.asm_cli.specs.Answer.{Saying, Says, Prints, PrintsPart, says_outcome, says_bound, says_given, says_sound, says_run, set_place, end_code}
 use Rattle.asm_cli.specs.Reply.{Replies, Refuses, EndsQuiet, Serves}
-use Rattle.asm_cli.proofs.Replying.{on_code, on_fault}
+use Rattle.asm_cli.proofs.Replying.{on_code, on_fault, prints_more, part_more}
 
 same_some : {A : Type 0} (x y : A) → Some x ≡ Some y → x ≡ y
 same_some x y e = cc
@@ -123,6 +123,25 @@ module _ {S K : Type 0} (files : S → Option Files) (failed : S → ℕ) (writt
     refuses_served (ImportCycle n) came read r = line_served (ImportCycle n) came r
     refuses_served (TooManyFiles n) came read r = line_served (TooManyFiles n) came r
     refuses_served load.Memory came read r = quiet_served ends.Memory tt (λ e. absurd (cc e)) (λ e. cc) r
+
+-- ---- a call that reads, and then one that reads and prints
+
+module _ {S K : Type 0} (files : S → Option Files) (failed : S → ℕ) (written : K → Option (List ℕ)) (faults : K → ℕ) (shelf mid last : S) (old new : K) (exit : Exit) (same : files mid ≡ files shelf) (later : failed shelf ≤ failed mid) where
+  pub serves_then : {A : Type 0} (says : Files → List Source → A → Saying) (o : Files → Outcome A) (now : List Source) (a : A) → ((held : Files) → files shelf ≡ Some held → o held ≡ ended now a)
+      → Serves files failed written faults mid last old new (λ held. says held now a) exit → Serves files failed written faults shelf last old new (λ held. says_outcome (says held) (o held)) exit
+  serves_then says o now a came s =
+      let wider : (held : Files) → files shelf ≡ Some held → (t : List ℕ) (c : ℕ) → says held now a t c → says_outcome (says held) (o held) t c =
+      (λ held told t c p. subst (λ (x : Outcome _). says_outcome (says held) x t c) (sym (came held told)) p) in
+      record {
+        answer = λ held told. on_code exit _ (s.answer held (same ∙ told)) (λ k p. prints_more (written old) (written new) (says held now a) (says_outcome (says held) (o held)) k (wider held told) p);
+        prefix = λ held told. on_fault exit _ (s.prefix held (same ∙ told)) (λ p. part_more (written old) (written new) (says held now a) (says_outcome (says held) (o held)) (wider held told) p);
+        good_words = s.good_words;
+        read_fault = λ is. rose_after (failed shelf) (failed mid) (failed last) later (s.read_fault is);
+        write_fault = s.write_fault;
+        same_files = s.same_files ∙ same;
+        shelf_later = (let further = s.shelf_later in omega (arith, later, further));
+        sink_later = s.sink_later;
+      }
 
 -- ---- what is said of a run
 

@@ -1,12 +1,11 @@
 -- What a command line prints, and with which code.
-use Rattle.std.specs.Prelude.{◌≡◌, ◌⊎◌, ℕ, List, [], ◌∷◌, ◌++◌, length, Option, Some, None, Result, Ok, Err, unwrap_or, codes}
+use Rattle.std.specs.Prelude.{◌≡◌, ◌⊎◌, ℕ, List, [], ◌++◌, length, Option, Some, None, Result, Ok, Err, unwrap_or, codes}
 use Rattle.asm_io.specs.Outside.{Files, Adds, AddsPart}
-use Rattle.asm_io.specs.Spots.{text_of}
 use Rattle.asm_io.specs.declared.sources.Place.{Place}
 use Rattle.asm_io.specs.declared.sources.Source.{Source}
 use Rattle.asm_lex.specs.declared.token.Token.{Token}
-use Rattle.asm_tree.specs.declared.error.ParseError.{ParseError}
 use Rattle.asm_tree.specs.declared.script.RawInputs.{RawInputs}
+use Rattle.asm_tree.specs.declared.script.RawScenario.{RawScenario}
 use Rattle.asm_tree.specs.declared.term.RawName.{RawName}
 use Rattle.asm_tree.specs.declared.unit.LoadedUnit.{LoadedUnit}
 use Rattle.asm_tree.specs.declared.unit.RawUnit.{RawUnit}
@@ -15,7 +14,6 @@ use Rattle.asm_node.specs.declared.stop.Stop.{Stop}
 use Rattle.asm_node.specs.Machine.{Machine, Input}
 use Rattle.asm_unit.specs.declared.error.LoadError.{LoadError}
 use Rattle.asm_unit.specs.Loading.{Outcome, ended, units_in, unit_in, tokens_in}
-use Rattle.asm_unit.specs.Spelled.{parse_fault}
 use Rattle.avalla_parse.specs.Parsed.{parsed_inputs}
 use Rattle.asm_faults.specs.declared.fault.Fault.{Fault}
 use Rattle.asm_faults.specs.Check.{model_fault}
@@ -25,9 +23,17 @@ use Rattle.asm_bind.specs.Given.{inputs_of}
 use Rattle.asm_run.specs.declared.run.RunEnd.{RunEnd}
 use Rattle.asm_run.specs.declared.run.RunEnd.TheVariants.{Done, Stopped}
 use Rattle.asm_run.specs.Printed.{Printed, run_of}
+use Rattle.avalla_play.specs.declared.playing.Played.{Played}
+use Rattle.avalla_play.specs.declared.playing.Played.TheVariants.{Passed, CheckFailed, Budget}
+use Rattle.avalla_play.specs.declared.playing.Played.TheVariants as play
+use Rattle.avalla_prepare.specs.declared.error.ScenarioError.{ScenarioError}
+use Rattle.avalla_prepare.specs.Prepared.{scenario_fault}
 use Rattle.asm_cli.specs.Counts.{counts_of, counts_text}
-use Rattle.asm_cli.specs.Fault.{fault_text, model_fault_text, bad_set_text}
-use Rattle.asm_cli.specs.Words.{Asked, ToRun, ToFormat, ToCheck, Plan, asked_of}
+use Rattle.asm_cli.specs.Fault.{model_fault_text, bad_set_text}
+use Rattle.asm_cli.specs.Scene.{IsCast, IsFaultOfPlay, IsStaged, cast_for, play_under, says_play}
+use Rattle.asm_cli.specs.Words.{Asked, ToRun, ToFormat, ToCheck, ToPlay, Plan, PlayPlan, IsBadWords, asked_of}
+use Rattle.asm_cli.specs.Saying.{read_as}
+pub use Rattle.asm_cli.specs.Saying.{Saying, SaysBytes, Says, says_end, says_outcome, most_input_bytes}
 
 -- ---- models
 
@@ -41,46 +47,20 @@ alone files model = unit_in files model []
 
 -- ---- input files
 
--- the greatest number of bytes of an input file
-abbrev pub most_input_bytes : ℕ
-most_input_bytes = 1048576
-
 -- a file that gives no input
 abbrev pub nothing_given : RawInputs
 nothing_given = record { steps = [] }
 
--- what tokens of the file of this number spell, or why they spell nothing
-abbrev pub spelled : ℕ → List ℕ → List Token → Result RawInputs ParseError → Result RawInputs LoadError
-spelled file text tokens (Ok raw) = Ok raw
-spelled file text tokens (Err e) = Err (parse_fault file text tokens e)
-
-abbrev pub spelled_from : ℕ → List ℕ → Result (List Token) LoadError → Result RawInputs LoadError
-spelled_from file text (Ok tokens) = spelled file text tokens (parsed_inputs text tokens)
-spelled_from file text (Err e) = Err e
-
 -- the settings of the file that was read last, of which these are the tokens
 abbrev pub settings_of : ℕ → Outcome (List Token) → Outcome RawInputs
-settings_of file o = record { sources = o.sources; end = spelled_from file (text_of o.sources file) o.end }
+settings_of file o = read_as parsed_inputs file o
 
 -- the settings of the input file, which is read after these files; where none is named nothing is given
 abbrev pub settings : Files → Option (List ℕ) → List Source → Outcome RawInputs
 settings files None sources = ended sources nothing_given
 settings files (Some name) sources = settings_of (length sources) (tokens_in files most_input_bytes name sources)
 
--- ---- what is printed, as relations between a text and a code
-
-abbrev pub Saying : Type 1
-Saying = List ℕ → ℕ → Type 0
-
--- exactly these bytes, with this code
-pub record SaysBytes (bytes : List ℕ) (meant : ℕ) (text : List ℕ) (code : ℕ) : Type 0 where
-  pub text_is : text ≡ bytes
-  pub code_is : code ≡ meant
-
--- this line, with this code
-pub record Says (line : List ℕ) (meant : ℕ) (text : List ℕ) (code : ℕ) : Type 0 where
-  pub text_is : text ≡ line ++ 10 ∷ []
-  pub code_is : code ≡ meant
+-- ---- what is printed
 
 -- 0 where all steps were made, 4 after a stop
 abbrev pub end_code : RunEnd → ℕ
@@ -99,15 +79,6 @@ says_faulted sources units (Some f) text code = Says (model_fault_text sources f
 -- what the check of a model finds
 abbrev pub says_checked : List Source → List LoadedUnit → Saying
 says_checked sources units text code = says_faulted sources units (model_fault units) text code
-
--- what `says` says of these files and what they are, or the line of the first fault of a file
-abbrev pub says_end : {A : Type 0} → (List Source → A → Saying) → List Source → Result A LoadError → Saying
-says_end says sources (Ok value) text code = says sources value text code
-says_end says sources (Err fault) text code = Says (fault_text sources fault) 3 text code
-
--- the same where these files were read and this came of it
-abbrev pub says_outcome : {A : Type 0} → (List Source → A → Saying) → Outcome A → Saying
-says_outcome says o text code = says_end says o.sources o.end text code
 
 -- how many steps are made: as many as the plan says, else as many as the input file has
 abbrev pub steps_of : Plan → RawInputs → ℕ
@@ -147,11 +118,12 @@ says_sound plan files sources units (Some f) text code = Says (model_fault_text 
 abbrev pub says_run : Plan → Files → List Source → List LoadedUnit → Saying
 says_run plan files sources units text code = says_sound plan files sources units (model_fault units) text code
 
--- what a command prints over these files: the run of a model, the canonical text of one file, or what the check of a model finds
+-- what a command prints over these files: the run of a model, the canonical text of one file, what the check of a model finds, or the play of a scenario
 abbrev pub says_task : Asked → Files → Saying
 says_task (ToRun plan) files text code = says_outcome (says_run plan files) (loaded files plan.model) text code
 says_task (ToFormat model) files text code = says_outcome says_canonical (alone files model) text code
 says_task (ToCheck model) files text code = says_outcome says_checked (loaded files model) text code
+says_task (ToPlay plan) files text code = says_play plan files text code
 
 abbrev pub says_asked : Option Asked → Files → Saying
 says_asked None files text code = Says (codes "asmeta: bad arguments") 2 text code
@@ -187,6 +159,7 @@ abbrev pub IsFirstFault : Asked → Files → LoadError → Type 0
 IsFirstFault (ToRun plan) files fault = IsFaultOfRun plan files fault
 IsFirstFault (ToFormat model) files fault = (alone files model).end ≡ Err fault
 IsFirstFault (ToCheck model) files fault = (loaded files model).end ≡ Err fault
+IsFirstFault (ToPlay plan) files fault = IsFaultOfPlay plan files fault
 
 -- a file that the command reads has a fault
 pub record IsRefused (words : List (List ℕ)) (files : Files) : Type 0 where
@@ -195,21 +168,20 @@ pub record IsRefused (words : List (List ℕ)) (files : Files) : Type 0 where
   pub asked_is : asked_of words ≡ Some asked
   pub is_first : IsFirstFault asked files fault
 
--- the model that a command looks at whole
-abbrev pub model_asked : Asked → Option (List ℕ)
-model_asked (ToRun plan) = Some plan.model
-model_asked (ToFormat model) = None
-model_asked (ToCheck model) = Some model
+-- the units of the model that a command looks at whole
+abbrev pub AreLoaded : Asked → Files → List LoadedUnit → Type 0
+AreLoaded (ToRun plan) files units = (loaded files plan.model).end ≡ Ok units
+AreLoaded (ToFormat model) files units = ⊥
+AreLoaded (ToCheck model) files units = (loaded files model).end ≡ Ok units
+AreLoaded (ToPlay plan) files units = IsCast plan files units
 
--- something is wrong with the model to run or to check
+-- something is wrong with the model to run, to check or to play
 pub record IsFaulty (words : List (List ℕ)) (files : Files) : Type 0 where
   pub asked : Asked
-  pub model : List ℕ
   pub units : List LoadedUnit
   pub fault : Fault
   pub asked_is : asked_of words ≡ Some asked
-  pub model_is : model_asked asked ≡ Some model
-  pub units_are : (loaded files model).end ≡ Ok units
+  pub are_loaded : AreLoaded asked files units
   pub fault_is : model_fault units ≡ Some fault
 
 -- the input file of a run of a model is read
@@ -227,9 +199,19 @@ pub record HasBadSet (words : List (List ℕ)) (files : Files) : Type 0 where
   pub is_read : IsRead words files plan units raw
   pub is_bad : inputs_of (coded_machine units).signature raw ≡ Err name
 
--- a file has a fault, a model has one, or a setting is bad
+-- something is wrong with the scenario to play
+pub record HasBadScene (words : List (List ℕ)) (files : Files) : Type 0 where
+  pub plan : PlayPlan
+  pub raw : RawScenario
+  pub units : List LoadedUnit
+  pub error : ScenarioError
+  pub asked_is : asked_of words ≡ Some (ToPlay plan)
+  pub is_staged : IsStaged plan files raw units
+  pub fault_is : scenario_fault (coded_machine units) 0 raw ≡ Some error
+
+-- a file has a fault, a model has one, a setting is bad, or something is wrong with a scenario
 abbrev pub HasFileFault : List (List ℕ) → Files → Type 0
-HasFileFault words files = IsRefused words files ⊎ (IsFaulty words files ⊎ HasBadSet words files)
+HasFileFault words files = IsRefused words files ⊎ (IsFaulty words files ⊎ (HasBadSet words files ⊎ HasBadScene words files))
 
 -- the run that the words ask ends so
 pub record EndsIn (words : List (List ℕ)) (files : Files) (end : RunEnd) : Type 0 where
@@ -240,6 +222,16 @@ pub record EndsIn (words : List (List ℕ)) (files : Files) (end : RunEnd) : Typ
   pub is_read : IsRead words files plan units raw
   pub are_given : inputs_of (coded_machine units).signature raw ≡ Ok inputs
   pub end_is : (run_under plan (coded_machine units) (settings_for files plan).sources raw inputs).end ≡ end
+
+-- the play that the words ask ends so
+pub record PlaysTo (words : List (List ℕ)) (files : Files) (end : Played) : Type 0 where
+  pub plan : PlayPlan
+  pub raw : RawScenario
+  pub units : List LoadedUnit
+  pub asked_is : asked_of words ≡ Some (ToPlay plan)
+  pub is_staged : IsStaged plan files raw units
+  pub is_right : scenario_fault (coded_machine units) 0 raw ≡ None
+  pub end_is : (play_under plan (cast_for files plan raw).sources units raw).end ≡ end
 
 -- the file to format is a unit
 pub record IsFormatted (words : List (List ℕ)) (files : Files) : Type 0 where
@@ -255,13 +247,25 @@ pub record IsFaultless (words : List (List ℕ)) (files : Files) : Type 0 where
   pub asked_is : asked_of words ≡ Some (ToCheck model)
   pub is_model : IsModel files model units
 
--- the run makes all its steps, the file to format is a unit, or nothing is wrong with the model to check
+-- the run makes all its steps, the file to format is a unit, nothing is wrong with the model to check, or the scenario passes
 abbrev pub IsDone : List (List ℕ) → Files → Type 0
-IsDone words files = EndsIn words files Done ⊎ (IsFormatted words files ⊎ IsFaultless words files)
+IsDone words files = EndsIn words files Done ⊎ (IsFormatted words files ⊎ (IsFaultless words files ⊎ PlaysTo words files Passed))
 
--- the run ends in a stop
+-- a check of the scenario fails
+abbrev pub HasFailed : List (List ℕ) → Files → Type 0
+HasFailed words files = (number : ℕ) × PlaysTo words files (CheckFailed number)
+
+-- the run or the play ends in a stop, or the play has used up its budget
 abbrev pub IsStopped : List (List ℕ) → Files → Type 0
-IsStopped words files = (e : Stop) × EndsIn words files (Stopped e)
+IsStopped words files = ((e : Stop) × (EndsIn words files (Stopped e) ⊎ PlaysTo words files (play.Stopped e))) ⊎ PlaysTo words files Budget
+
+-- each code has its cause, and there is no other code
+pub data HasCause (words : List (List ℕ)) (files : Files) (code : ℕ) : Type 0 where
+  bad_words : IsBadWords words → code ≡ 2 → HasCause words files code
+  file_fault : HasFileFault words files → code ≡ 3 → HasCause words files code
+  stops : IsStopped words files → code ≡ 4 → HasCause words files code
+  fails : HasFailed words files → code ≡ 1 → HasCause words files code
+  done : IsDone words files → code ≡ 0 → HasCause words files code
 
 -- ---- what stands written
 

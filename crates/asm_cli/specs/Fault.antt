@@ -1,5 +1,6 @@
--- What is printed of a fault of a file or of a model.
-use Rattle.std.specs.Prelude.{ℕ, List, [], ◌++◌, drop, take_while, codes}
+-- What is printed of a fault of a file, of a model or of a scenario.
+use Rattle.std.specs.Prelude.{ℕ, List, [], ◌++◌, drop, take_while, slice_get, codes}
+use Rattle.std.specs.Option.{option_map, unwrap_or}
 use Rattle.asm_io.specs.declared.sources.Source.{Source}
 use Rattle.asm_io.specs.declared.sources.Place.{Place}
 use Rattle.asm_io.specs.Spots.{text_of}
@@ -10,7 +11,11 @@ use Rattle.asm_tree.specs.declared.error.ParseError.{ParseError}
 use Rattle.asm_tree.specs.declared.error.ParseError.TheVariants as parse
 use Rattle.asm_faults.specs.declared.fault.ModelFault.{ModelFault}
 use Rattle.asm_faults.specs.declared.fault.ModelFault.TheVariants.{Duplicate, Unknown, WrongKind, WrongArity, WrongType, Unbound, EmptyDomain, DomainTooLarge, TooManyLocations, NoDefinition, NoMain, NoInit, Cycle, CallsTooDeep, ForbiddenRead, RangeTooWide}
+use Rattle.asm_resolve.specs.declared.error.ModelError.{ModelError}
+use Rattle.asm_resolve.specs.declared.error.ModelError.TheVariants as resolve
 use Rattle.asm_text.specs.Texts.{place_text}
+use Rattle.avalla_prepare.specs.declared.error.ScenarioError.{ScenarioError}
+use Rattle.avalla_prepare.specs.declared.error.ScenarioError.TheVariants as scenario
 use Rattle.asm_unit.specs.declared.error.LoadError.{LoadError}
 use Rattle.asm_unit.specs.declared.error.LoadError.TheVariants.{Absent, TooLong, Read, Lex, Parse, ImportCycle, TooManyFiles, Memory}
 
@@ -67,3 +72,24 @@ model_fault_text sources kind name place = place_text sources place ++ (model_me
 -- the line of a bad setting of this name, without its end
 abbrev pub bad_set_text : List Source → Place → List ℕ → List ℕ
 bad_set_text sources place name = place_text sources place ++ (codes ": bad set: " ++ name)
+
+-- what is said of a missing block of this name, without the line's end
+abbrev pub no_block_text : List Source → Place → List ℕ → List ℕ
+no_block_text sources place name = place_text sources place ++ (codes ": no such block: " ++ name)
+
+-- the name of the file of a number
+abbrev pub name_in : List Source → ℕ → List ℕ
+name_in sources file = unwrap_or (option_map (λ (source : Source). source.name) (slice_get sources file)) []
+
+-- the line of what is wrong with a model, without its end; want of memory has none
+abbrev pub model_error_text : List Source → ModelError → List ℕ
+model_error_text sources (resolve.Fault kind name place) = model_fault_text sources kind name place
+model_error_text sources resolve.Memory = []
+
+-- the line of what is wrong with a scenario, without its end; want of memory has none
+abbrev pub scenario_fault_text : List Source → ScenarioError → List ℕ
+scenario_fault_text sources (scenario.NoBlock name place) = no_block_text sources place name
+scenario_fault_text sources (scenario.BadSet name place) = bad_set_text sources place name
+scenario_fault_text sources (scenario.Model e) = model_error_text sources e
+scenario_fault_text sources (scenario.TooLong file) = name_in sources file ++ codes ": scenario too long"
+scenario_fault_text sources scenario.Memory = []

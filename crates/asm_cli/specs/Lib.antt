@@ -3,4 +3,6 @@ pub mod Counts
 pub mod Exit
 pub mod Fault
 pub mod Reply
+pub mod Saying
+pub mod Scene
 pub mod Words

@@ -7,7 +7,11 @@ use Rattle.asm_io.specs.declared.sources.Source.{Source}
 use Rattle.asm_unit.specs.declared.error.LoadError.{LoadError}
 use Rattle.asm_unit.specs.declared.error.LoadError.TheVariants.{Absent, TooLong, Read, Lex, Parse, ImportCycle, TooManyFiles}
 use Rattle.asm_unit.specs.declared.error.LoadError.TheVariants as load
-use Rattle.asm_cli.specs.Fault.{fault_text}
+use Rattle.asm_resolve.specs.declared.error.ModelError.TheVariants as resolve
+use Rattle.avalla_prepare.specs.declared.error.ScenarioError.{ScenarioError}
+use Rattle.avalla_prepare.specs.declared.error.ScenarioError.TheVariants.{NoBlock, BadSet, Model}
+use Rattle.avalla_prepare.specs.declared.error.ScenarioError.TheVariants as scenario
+use Rattle.asm_cli.specs.Fault.{fault_text, scenario_fault_text}
 use Rattle.asm_cli.specs.Exit.{OnCode, OnFault}
 use Rattle.asm_cli.specs.Answer.{Saying, Says, Prints, PrintsPart}
 
@@ -34,6 +38,15 @@ Refuses written faults old new sources (Parse place e) exit = Replies written fa
 Refuses written faults old new sources (ImportCycle name) exit = Replies written faults old new (Says (fault_text sources (ImportCycle name)) 3) exit
 Refuses written faults old new sources (TooManyFiles name) exit = Replies written faults old new (Says (fault_text sources (TooManyFiles name)) 3) exit
 Refuses written faults old new sources load.Memory exit = EndsQuiet written faults old new Memory exit
+
+-- It prints the line of what is wrong with a scenario; after want of memory it ends without a code.
+abbrev pub RefusesScene : {K : Type 0} → (K → Option (List ℕ)) → (K → ℕ) → K → K → List Source → ScenarioError → Exit → Type 0
+RefusesScene written faults old new sources (NoBlock name place) exit = Replies written faults old new (Says (scenario_fault_text sources (NoBlock name place)) 3) exit
+RefusesScene written faults old new sources (BadSet name place) exit = Replies written faults old new (Says (scenario_fault_text sources (BadSet name place)) 3) exit
+RefusesScene written faults old new sources (Model (resolve.Fault kind name place)) exit = Replies written faults old new (Says (scenario_fault_text sources (Model (resolve.Fault kind name place))) 3) exit
+RefusesScene written faults old new sources (Model resolve.Memory) exit = EndsQuiet written faults old new Memory exit
+RefusesScene written faults old new sources (scenario.TooLong file) exit = Replies written faults old new (Says (scenario_fault_text sources (scenario.TooLong file)) 3) exit
+RefusesScene written faults old new sources scenario.Memory exit = EndsQuiet written faults old new Memory exit
 
 -- It reads from a shelf, and prints a text of this relation with its code, or ends without a code after a prefix of one. No code is that of bad words.
 pub record Serves {S K : Type 0} (files : S → Option Files) (failed : S → ℕ) (written : K → Option (List ℕ)) (faults : K → ℕ) (shelf_old shelf_new : S) (old new : K) (says : Files → Saying) (exit : Exit) : Type 0 where

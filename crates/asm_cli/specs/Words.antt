@@ -5,6 +5,7 @@ use Rattle.std.specs.Option.{option_map, unwrap_or}
 use denote.Ref.{Bor}
 use Rattle.asm_cli.specs.declared.option.Options as option
 use Rattle.asm_cli.specs.declared.command.Run.{Run}
+use Rattle.asm_cli.specs.declared.command.Staging.{Staging}
 use Rattle.asm_cli.specs.declared.command.Task.{Task}
 use Rattle.asm_cli.specs.declared.command.Task.TheVariants as task
 
@@ -55,20 +56,24 @@ numbers_up_to limit word = numbers_among limit (slice_split (λ b. b == 44) word
 
 -- ---- options
 
--- the greatest number of steps, and the greatest choice word
+-- the greatest number of steps, the greatest budget, and the greatest choice word
 abbrev pub most_steps : ℕ
 most_steps = 100000
+
+abbrev pub most_budget : ℕ
+most_budget = 10000000
 
 abbrev pub most_choice : ℕ
 most_choice = 4294967295
 
--- the options of a run, where they are given
+-- the options of runs and plays, where they are given
 pub record Options : Type 0 where
   pub steps : Option ℕ
   pub choices : Option (List ℕ)
+  pub budget : Option ℕ
 
 abbrev pub no_options : Options
-no_options = record { steps = None; choices = None }
+no_options = record { steps = None; choices = None; budget = None }
 
 -- an option is given at most once
 abbrev pub once : {A : Type 0} → Option A → Option A → Option A
@@ -76,17 +81,21 @@ once (Some a) value = None
 once None value = value
 
 abbrev pub with_steps : Options → Option ℕ → Option Options
-with_steps o value = option_map (λ n. record { steps = Some n; choices = o.choices }) (once o.steps value)
+with_steps o value = option_map (λ n. record { steps = Some n; choices = o.choices; budget = o.budget }) (once o.steps value)
 
 abbrev pub with_choices : Options → Option (List ℕ) → Option Options
-with_choices o value = option_map (λ ws. record { steps = o.steps; choices = Some ws }) (once o.choices value)
+with_choices o value = option_map (λ ws. record { steps = o.steps; choices = Some ws; budget = o.budget }) (once o.choices value)
 
--- one more option: `--steps N` with N at most 100,000, or `--choices W,W,..` with each W at most 4,294,967,295
+abbrev pub with_budget : Options → Option ℕ → Option Options
+with_budget o value = option_map (λ n. record { steps = o.steps; choices = o.choices; budget = Some n }) (once o.budget value)
+
+-- one more option: `--steps N` with N at most 100,000, `--choices W,W,..` with each W at most 4,294,967,295, or `--budget N` with N at most 10,000,000
 abbrev pub with_option : Options → List ℕ → List ℕ → Option Options
 with_option o name value =
     if bytes_eq name (codes "--steps") then with_steps o (number_up_to most_steps value)
     else (if bytes_eq name (codes "--choices") then with_choices o (numbers_up_to most_choice value)
-    else None)
+    else (if bytes_eq name (codes "--budget") then with_budget o (number_up_to most_budget value)
+    else None))
 
 -- options and their values, each in a word of its own
 abbrev pub options_from : Options → List (List ℕ) → Option Options
@@ -103,18 +112,31 @@ pub record Plan : Type 0 where
   pub steps : Option ℕ
   pub choices : List ℕ
 
--- what a command line asks: a run of a model, the canonical text of a file, or the check of a model
+-- a play: the scenario, the choice words, and the greatest number of steps of each `step until`
+pub record PlayPlan : Type 0 where
+  pub scenario : List ℕ
+  pub choices : List ℕ
+  pub budget : ℕ
+
+-- what a command line asks: a run of a model, the canonical text of a file, the check of a model, or the play of a scenario
 pub data Asked : Type 0 where
   ToRun : (plan : Plan) → Asked
   ToFormat : (model : List ℕ) → Asked
   ToCheck : (model : List ℕ) → Asked
+  ToPlay : (plan : PlayPlan) → Asked
 
-abbrev pub planned : List ℕ → Option (List ℕ) → Options → Asked
-planned model inputs o = ToRun (record { model = model; inputs = inputs; steps = o.steps; choices = unwrap_or o.choices [] })
+-- an option that a command doesn't take
+abbrev pub unless_given : Option ℕ → Asked → Option Asked
+unless_given (Some n) asked = None
+unless_given None asked = Some asked
+
+-- a run takes no budget
+abbrev pub planned : List ℕ → Option (List ℕ) → Options → Option Asked
+planned model inputs o = unless_given o.budget (ToRun (record { model = model; inputs = inputs; steps = o.steps; choices = unwrap_or o.choices [] }))
 
 -- a run of the model with these options behind its files
 abbrev pub run_with : List ℕ → Option (List ℕ) → List (List ℕ) → Option Asked
-run_with model inputs words = option_map (planned model inputs) (options_from no_options words)
+run_with model inputs words = and_then (options_from no_options words) (planned model inputs)
 
 -- behind the model: an input file, where a word isn't an option, and then options
 abbrev pub run_of_model : List ℕ → List (List ℕ) → Option Asked
@@ -125,6 +147,19 @@ run_of_model model (word ∷ words) = if is_position word then run_with model (S
 abbrev pub run_asked : List (List ℕ) → Option Asked
 run_asked [] = None
 run_asked (model ∷ words) = if is_position model then run_of_model model words else None
+
+-- the budget where none is given
+abbrev pub usual_budget : ℕ
+usual_budget = 1000
+
+-- a play takes no number of steps
+abbrev pub staged : List ℕ → Options → Option Asked
+staged scenario o = unless_given o.steps (ToPlay (record { scenario = scenario; choices = unwrap_or o.choices []; budget = unwrap_or o.budget usual_budget }))
+
+-- `play SCENARIO [--choices W,W,..] [--budget N]`, options in any order
+abbrev pub play_asked : List (List ℕ) → Option Asked
+play_asked [] = None
+play_asked (scenario ∷ words) = if is_position scenario then and_then (options_from no_options words) (staged scenario) else None
 
 -- one file alone
 abbrev pub file_asked : (List ℕ → Asked) → List (List ℕ) → Option Asked
@@ -137,9 +172,10 @@ command_asked word words =
     if bytes_eq word (codes "run") then run_asked words
     else (if bytes_eq word (codes "format") then file_asked ToFormat words
     else (if bytes_eq word (codes "check") then file_asked ToCheck words
-    else None))
+    else (if bytes_eq word (codes "play") then play_asked words
+    else None)))
 
--- `check MODEL`, `format MODEL` or a run; nothing else is asked
+-- `check MODEL`, `format MODEL`, a run or a play; nothing else is asked
 abbrev pub asked_of : List (List ℕ) → Option Asked
 asked_of [] = None
 asked_of (word ∷ words) = command_asked word words
@@ -154,7 +190,7 @@ texts words = map (λ word. word.now) words
 
 -- what the program's values ask
 abbrev pub options_seen : option.Options → Options
-options_seen o = record { steps = o.steps; choices = o.choices }
+options_seen o = record { steps = o.steps; choices = o.choices; budget = o.budget }
 
 abbrev pub name_seen : Option (Bor (List ℕ)) → Option (List ℕ)
 name_seen name = option_map (λ word. word.now) name
@@ -162,7 +198,11 @@ name_seen name = option_map (λ word. word.now) name
 abbrev pub plan_seen : Run → Plan
 plan_seen run = record { model = run.model.now; inputs = name_seen run.inputs; steps = run.steps; choices = run.choices }
 
+abbrev pub staging_seen : Staging → PlayPlan
+staging_seen staging = record { scenario = staging.scenario.now; choices = staging.choices; budget = staging.budget }
+
 abbrev pub seen : Task → Asked
 seen (task.Run run) = ToRun (plan_seen run)
 seen (task.Format model) = ToFormat model.now
 seen (task.Check model) = ToCheck model.now
+seen (task.Play staging) = ToPlay (staging_seen staging)

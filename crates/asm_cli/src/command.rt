@@ -19,6 +19,19 @@ pub struct Run<'a> {
     pub choices: Listed<u32>,
 }
 
+/// A play of a scenario.
+#[derive(Debug, Drop)]
+pub struct Staging<'a> {
+    /// The scenario's file as it was given.
+    pub scenario: &'a str,
+    pub choices: Listed<u32>,
+    /// The greatest number of steps of each `step until`, at most 10,000,000.
+    pub budget: u64,
+}
+
+/// The budget of a play where none is given.
+const USUAL_BUDGET: u64 = 1000;
+
 /// What is asked.
 #[derive(Debug, Drop)]
 pub enum Task<'a> {
@@ -27,10 +40,11 @@ pub enum Task<'a> {
     Format(&'a str),
     /// The check of the model of this name.
     Check(&'a str),
+    Play(Staging<'a>),
 }
 
-/// What the words ask, where they are in the grammar: `check MODEL`, `format MODEL` or
-/// `run MODEL [INPUTS] [--steps N] [--choices W,W,..]`.
+/// What the words ask, where they are in the grammar: `check MODEL`, `format MODEL`,
+/// `run MODEL [INPUTS] [--steps N] [--choices W,W,..]` or `play SCENARIO [--choices W,W,..] [--budget N]`.
 pub fn asked(alloc: Global, words: &[Name]) -> Result<Option<Task<'_>>, AllocError>
     ensures { IfOk result (λ t. option_map seen t ≡ asked_of words.now) }
 {
@@ -41,6 +55,7 @@ pub fn asked(alloc: Global, words: &[Name]) -> Result<Option<Task<'_>>, AllocErr
         "run" => asked_run(alloc, rest),
         "format" => Ok(asked_format(rest)),
         "check" => Ok(asked_check(rest)),
+        "play" => asked_play(alloc, rest),
         _ => Ok(None),
     }
 }
@@ -104,21 +119,70 @@ fn run_with<'a>(
     ensures { IfOk result (λ t. option_map seen t ≡ spec.run_with model.now (name_seen inputs.entry) words.now) }
 {
     match options_in(alloc, words)? {
-        Some(options) => Ok(Some(planned(alloc, model, inputs, options))),
+        Some(options) => Ok(planned(alloc, model, inputs, options)),
         None => Ok(None),
     }
 }
 
-fn planned<'a>(alloc: Global, model: &'a str, inputs: Option<&'a str>, options: Options) -> Task<'a>
-    ensures { seen result ≡ spec.planned model.now (name_seen inputs.entry) (options_seen options) }
+/// The run of a model with these options, which takes no budget.
+fn planned<'a>(
+    alloc: Global,
+    model: &'a str,
+    inputs: Option<&'a str>,
+    options: Options,
+) -> Option<Task<'a>>
+    ensures { option_map seen result ≡ spec.planned model.now (name_seen inputs.entry) (options_seen options) }
 {
-    let Options { steps, choices } = options;
-    Task::Run(Run {
+    if options.budget.is_some() {
+        return None;
+    }
+    Some(Task::Run(Run {
         model,
         inputs,
-        steps,
-        choices: or_none(alloc, choices),
-    })
+        steps: options.steps,
+        choices: or_none(alloc, options.choices),
+    }))
+}
+
+/// The play that the words behind `play` ask.
+fn asked_play(alloc: Global, words: &[Name]) -> Result<Option<Task<'_>>, AllocError>
+    ensures { IfOk result (λ t. option_map seen t ≡ spec.play_asked words.now) }
+{
+    let [scenario, rest @ ..] = words else {
+        return Ok(None);
+    };
+    if !is_position(scenario.text()) {
+        return Ok(None);
+    }
+    play_with(alloc, scenario.text(), rest)
+}
+
+/// The play of a scenario with options.
+fn play_with<'a>(
+    alloc: Global,
+    scenario: &'a str,
+    words: &[Name],
+) -> Result<Option<Task<'a>>, AllocError>
+    ensures { IfOk result (λ t. option_map seen t ≡ spec.and_then (spec.options_from spec.no_options words.now) (spec.staged scenario.now)) }
+{
+    match options_in(alloc, words)? {
+        Some(options) => Ok(staged(alloc, scenario, options)),
+        None => Ok(None),
+    }
+}
+
+/// The play of a scenario with these options, which takes no number of steps.
+fn staged<'a>(alloc: Global, scenario: &'a str, options: Options) -> Option<Task<'a>>
+    ensures { option_map seen result ≡ spec.staged scenario.now (options_seen options) }
+{
+    if options.steps.is_some() {
+        return None;
+    }
+    Some(Task::Play(Staging {
+        scenario,
+        choices: or_none(alloc, options.choices),
+        budget: options.budget.unwrap_or(USUAL_BUDGET),
+    }))
 }
 
 /// The choice words, or none.

@@ -1,4 +1,4 @@
-//! The program: reads Abstract State Machines, checks them, prints their canonical text, and runs them.
+//! The program: reads Abstract State Machines, checks them, prints their canonical text, runs them, and plays scenarios on them.
 #![tactic(auto)]
 
 mod check;
@@ -13,7 +13,9 @@ mod model_fault;
 mod option;
 mod run;
 mod say;
+mod scene_file;
 mod settings;
+mod staging;
 #[cfg(test)]
 mod tests;
 mod top;

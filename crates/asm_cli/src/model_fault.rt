@@ -1,8 +1,8 @@
-//! The lines of a model's fault and of a bad setting.
-ghost use Rattle.std.specs.Prelude.{◌≡◌, ◌≤◌, ◌++◌, ◌∷◌, [], All, length, IfOk, OnOk};
+//! The lines of a model's fault, of a bad setting, and of what is wrong with a scenario.
+ghost use Rattle.std.specs.Prelude.{◌≡◌, ◌≤◌, ◌++◌, ◌∷◌, [], All, length, codes, IfOk, OnOk};
 ghost use Rattle.asm_text.specs.Texts.{place_text};
-ghost use Rattle.asm_cli.specs.Fault.{model_message, model_fault_text, bad_set_text};
-ghost use Rattle.asm_cli.specs.Reply.{Replies};
+ghost use Rattle.asm_cli.specs.Fault.{model_message, model_fault_text, bad_set_text, name_in, no_block_text};
+ghost use Rattle.asm_cli.specs.Reply.{Replies, RefusesScene};
 ghost use Rattle.asm_cli.specs.Answer.{most_input_bytes, Says};
 
 use crate::exit::Exit;
@@ -10,7 +10,9 @@ use crate::say::say;
 use asm_faults::ModelFault;
 use asm_io::{Place, Sink, Sources, Text, append_str};
 use asm_list::Name;
+use asm_resolve::ModelError;
 use asm_text::print_place;
+use avalla_prepare::ScenarioError;
 use std::alloc::{AllocError, Global};
 
 /// Prints the line of a fault of a model, of which the token's text and place are given.
@@ -45,6 +47,87 @@ pub fn refuse_set<K: Sink>(
     match line(alloc, sources, ": bad set: ", name, place) {
         Ok(text) => say(sink, text.slice(), 3),
         Err(_) => Exit::Memory,
+    }
+}
+
+/// Prints the line of what is wrong with a scenario, where there is one.
+pub fn refuse_scenario<K: Sink>(
+    alloc: Global,
+    sources: &Sources,
+    error: &ScenarioError,
+    sink: &mut K,
+) -> Exit
+    requires { All (λ source. length source.text ≤ most_input_bytes) sources.now }
+    ensures { RefusesScene K.written K.faults sink.old sink.new sources.now error.now result }
+{
+    match error {
+        ScenarioError::NoBlock(name, place) => refuse_block(alloc, sources, name, *place, sink),
+        ScenarioError::BadSet(name, place) => refuse_set(alloc, sources, name, *place, sink),
+        ScenarioError::Model(ModelError::Fault(kind, name, place)) => {
+            refuse_model(alloc, sources, *kind, name, *place, sink)
+        }
+        ScenarioError::Model(ModelError::Memory) => Exit::Memory,
+        ScenarioError::TooLong(file) => refuse_length(alloc, sources, *file, sink),
+        ScenarioError::Memory => Exit::Memory,
+    }
+}
+
+/// Prints the line of a missing block of this name.
+fn refuse_block<K: Sink>(
+    alloc: Global,
+    sources: &Sources,
+    name: &Name,
+    place: Place,
+    sink: &mut K,
+) -> Exit
+    requires { All (λ source. length source.text ≤ most_input_bytes) sources.now }
+    ensures { Replies K.written K.faults sink.old sink.new (Says (no_block_text sources.now place name.now) 3) result }
+{
+    match block_line(alloc, sources, name, place) {
+        Ok(text) => say(sink, text.slice(), 3),
+        Err(_) => Exit::Memory,
+    }
+}
+
+fn block_line(
+    alloc: Global,
+    sources: &Sources,
+    name: &Name,
+    place: Place,
+) -> Result<Text, AllocError>
+    requires { All (λ source. length source.text ≤ most_input_bytes) sources.now }
+    ensures { IfOk result (λ text. text ≡ no_block_text sources.now place name.now ++ 10 ∷ []) }
+{
+    line(alloc, sources, ": no such block: ", name, place)
+}
+
+/// Prints the line of a scenario that is too long, in the file of this number.
+fn refuse_length<K: Sink>(alloc: Global, sources: &Sources, file: u32, sink: &mut K) -> Exit
+    ensures { Replies K.written K.faults sink.old sink.new (Says (name_in sources.now file ++ codes ": scenario too long") 3) result }
+{
+    match length_line(alloc, sources, file) {
+        Ok(text) => say(sink, text.slice(), 3),
+        Err(_) => Exit::Memory,
+    }
+}
+
+fn length_line(alloc: Global, sources: &Sources, file: u32) -> Result<Text, AllocError>
+    ensures { IfOk result (λ text. text ≡ (name_in sources.now file ++ codes ": scenario too long") ++ 10 ∷ []) }
+{
+    let mut text = Text::new(alloc);
+    append_str(&mut text, name_of(sources, file))?;
+    append_str(&mut text, ": scenario too long")?;
+    append_str(&mut text, "\n")?;
+    Ok(text)
+}
+
+/// The name of the file of this number.
+fn name_of(sources: &Sources, file: u32) -> &str
+    ensures { result.now ≡ name_in sources.now file }
+{
+    match sources.item(file as usize) {
+        Some(source) => source.name.text(),
+        None => "",
     }
 }
 

@@ -1,4 +1,4 @@
-//! The options of a run.
+//! The options of runs and plays.
 ghost use Rattle.std.specs.Prelude.{◌≡◌, ◌≤◌, ◌==◌, true, IfOk, option_map};
 ghost use Rattle.std.specs.List.{slice_split, list_all};
 ghost use Rattle.asm_cli.specs.Words as spec;
@@ -10,14 +10,18 @@ use std::alloc::{AllocError, Global};
 /// The greatest number of steps.
 const MOST_STEPS: u64 = 100_000;
 
+/// The greatest budget.
+const MOST_BUDGET: u64 = 10_000_000;
+
 /// The greatest choice word.
 const MOST_CHOICE: u64 = 4_294_967_295;
 
-/// The options of a run, where they are given.
+/// The options of runs and plays, where they are given.
 #[derive(Debug, Drop)]
 pub struct Options {
     pub steps: Option<u64>,
     pub choices: Option<Listed<u32>>,
+    pub budget: Option<u64>,
 }
 
 /// The options that words give, each an option and its value, if they are in the grammar.
@@ -27,6 +31,7 @@ pub fn options_in(alloc: Global, words: &[Name]) -> Result<Option<Options>, Allo
     let options = Options {
         steps: None,
         choices: None,
+        budget: None,
     };
     options_behind(alloc, options, words)
 }
@@ -67,6 +72,9 @@ fn with_option(
         let choices = choices(alloc, value)?;
         return Ok(with_choices(options, choices));
     }
+    if name == "--budget" {
+        return Ok(with_budget(options, number(value, MOST_BUDGET)));
+    }
     Ok(None)
 }
 
@@ -79,6 +87,7 @@ fn with_steps(options: Options, value: Option<u64>) -> Option<Options>
     Some(Options {
         steps: Some(value?),
         choices: options.choices,
+        budget: options.budget,
     })
 }
 
@@ -91,6 +100,20 @@ fn with_choices(options: Options, value: Option<Listed<u32>>) -> Option<Options>
     Some(Options {
         steps: options.steps,
         choices: Some(value?),
+        budget: options.budget,
+    })
+}
+
+fn with_budget(options: Options, value: Option<u64>) -> Option<Options>
+    ensures { option_map options_seen result ≡ spec.with_budget (options_seen options) value }
+{
+    if options.budget.is_some() {
+        return None;
+    }
+    Some(Options {
+        steps: options.steps,
+        choices: options.choices,
+        budget: Some(value?),
     })
 }
 

@@ -7,6 +7,7 @@ ghost use Rattle.asm_unit.specs.Loading.{tokens_in, Follows, OnRead, AddsFiles, 
 ghost use Rattle.asm_unit.specs.Spelled as unit_spec;
 ghost use Rattle.avalla_parse.specs.Parsed.{parsed_inputs};
 ghost use Rattle.asm_cli.specs.Answer as spec;
+ghost use Rattle.asm_cli.specs.Saying as saying;
 ghost use Rattle.asm_cli.specs.Words.{name_seen};
 
 use crate::fault::text_in;
@@ -19,8 +20,8 @@ use asm_unit::{LoadError, load_one};
 use avalla_parse::inputs;
 use std::alloc::Global;
 
-/// The greatest number of bytes of an input file.
-const MOST_BYTES: u64 = 1_048_576;
+/// The greatest number of bytes of an input file and of a scenario.
+pub const MOST_BYTES: u64 = 1_048_576;
 
 /// The settings of the input file of this name, which is added to the sources. Without a name nothing is given.
 pub fn settings<S: Shelf>(
@@ -67,7 +68,7 @@ fn settings_of<S: Shelf>(
 fn spelled(alloc: Global, file: u32, text: &[u8], tokens: &[Token]) -> Result<RawInputs, LoadError>
     requires together { cut text.now ≡ Ok tokens.now }
     requires small { length text.now < 2 ^ 31 }
-    ensures { Judges result (spec.spelled file text.now tokens.now (parsed_inputs text.now tokens.now)) }
+    ensures { Judges result (saying.spelled file text.now tokens.now (parsed_inputs text.now tokens.now)) }
 {
     match inputs(alloc, text, tokens) {
         Ok(raw) => Ok(raw),
@@ -76,7 +77,7 @@ fn spelled(alloc: Global, file: u32, text: &[u8], tokens: &[Token]) -> Result<Ra
 }
 
 /// The fault at the token where the settings end too soon or go on.
-fn parse_fault(file: u32, text: &[u8], tokens: &[Token], error: ParseError) -> LoadError
+pub fn parse_fault(file: u32, text: &[u8], tokens: &[Token], error: ParseError) -> LoadError
     requires { length text.now < 2 ^ 31 }
     ensures { result ≡ unit_spec.parse_fault file text.now tokens.now error }
 {

@@ -325,7 +325,7 @@ fn each_model_has_its_run(rt: HostRuntime) -> Result<(), Fail> {
 }
 
 /// Words, with the code and what is printed over one file `t.asm` that is empty.
-const WORDS: [(&[&str], u8, &str); 23] = [
+const WORDS: [(&[&str], u8, &str); 28] = [
     (&[], 2, "asmeta: bad arguments\n"),
     (&["run"], 2, "asmeta: bad arguments\n"),
     (&["run", ""], 2, "asmeta: bad arguments\n"),
@@ -405,6 +405,23 @@ const WORDS: [(&[&str], u8, &str); 23] = [
         "t.asm:1:1: syntax error\n",
     ),
     (&["run", "sub/../../u.asm"], 3, "../u.asm: no such file\n"),
+    (&["play"], 2, "asmeta: bad arguments\n"),
+    (
+        &["play", "t.asm", "--steps", "1"],
+        2,
+        "asmeta: bad arguments\n",
+    ),
+    (
+        &["play", "t.asm", "--budget", "10000001"],
+        2,
+        "asmeta: bad arguments\n",
+    ),
+    (
+        &["play", "t.asm", "--budget", "0", "--choices", "1"],
+        3,
+        "t.asm:1:1: syntax error\n",
+    ),
+    (&["play", "u.avalla"], 3, "u.avalla: no such file\n"),
 ];
 
 #[test]
@@ -1096,6 +1113,265 @@ fn a_word_that_is_no_text_is_empty(rt: HostRuntime) -> Result<(), Fail> {
     assert_eq!(rt; words.len(), 3);
     for (word, text) in words.iter().zip(["run", "", "x"].iter()) {
         assert_eq!(rt; word.text(), *text);
+    }
+    Ok(())
+}
+
+/// A model that counts up to 3, one that keeps what two monitored functions say, and one with a shared function.
+const CAST: [(&str, &str); 3] = [
+    (
+        "t.asm",
+        "asm t\nsignature:\ndomain D subsetof Integer controlled x : D\ndefinitions:\ndomain D = {1:3} rule r_to($v in D) = x := $v\nmain rule r_Main =\nif x < 3 then x := x + 1 endif\ndefault init s0:\nfunction x = 1\n",
+    ),
+    (
+        "m.asm",
+        "asm m signature: monitored m : Boolean monitored n : Boolean controlled x : Boolean definitions: main rule r_Main = x := m and n default init s0:",
+    ),
+    (
+        "h.asm",
+        "asm h signature: shared s : Boolean controlled x : Boolean definitions: invariant over x : x main rule r_Main = par x := s s := false endpar default init s0: function s = true function x = true",
+    ),
+];
+
+/// The words behind `play s.avalla`, the model, the commands from the third line on, the code and what is printed.
+const PLAYS: [(&[&str], &str, &str, u8, &str); 28] = [
+    (
+        &[],
+        "t.asm",
+        "begin up step end check x = 2; execblock up; check x = 3;",
+        0,
+        "state 0\n  x = 1\nstate 1\n  x = 2\ncheck 1 passed\nstate 2\n  x = 3\ncheck 2 passed\npassed\n",
+    ),
+    (
+        &["--budget", "5"],
+        "t.asm",
+        "step until x = 9;",
+        4,
+        "state 0\n  x = 1\nstate 1\n  x = 2\nstate 2\n  x = 3\nstate 3\n  x = 3\nstate 4\n  x = 3\nstate 5\n  x = 3\nstop: budget 5 used up\n",
+    ),
+    (
+        &["--budget", "2"],
+        "t",
+        "step until x = 3; step until x = 3;",
+        0,
+        "state 0\n  x = 1\nstate 1\n  x = 2\nstate 2\n  x = 3\npassed\n",
+    ),
+    (
+        &["--budget", "1"],
+        "./t.asm",
+        "step until x = 2; step until x = 3;",
+        0,
+        "state 0\n  x = 1\nstate 1\n  x = 2\nstate 2\n  x = 3\npassed\n",
+    ),
+    (
+        &["--budget", "0"],
+        "t",
+        "step until x = 1; step until x = 2;",
+        4,
+        "state 0\n  x = 1\nstop: budget 0 used up\n",
+    ),
+    (
+        &[],
+        "t.asm",
+        "check x = 2; step",
+        1,
+        "state 0\n  x = 1\ncheck 1 failed\nfailed\n",
+    ),
+    (
+        &[],
+        "t.asm",
+        "exec x := 3; check x = 3;",
+        0,
+        "state 0\n  x = 1\nstate 1\n  x = 3\ncheck 1 passed\npassed\n",
+    ),
+    (
+        &[],
+        "t.asm",
+        "exec let ($v = x + 1) in r_to[$v] endlet; check x = 2;",
+        0,
+        "state 0\n  x = 1\nstate 1\n  x = 2\ncheck 1 passed\npassed\n",
+    ),
+    (
+        &[],
+        "t.asm",
+        "execblock up;",
+        3,
+        "s.avalla:3:11: no such block: up\n",
+    ),
+    (
+        &[],
+        "t.asm",
+        "begin up step execblock up; end",
+        3,
+        "s.avalla:3:25: no such block: up\n",
+    ),
+    (
+        &[],
+        "t.asm",
+        "begin go exec x := 3; end begin go exec x := 2; end execblock go;",
+        0,
+        "state 0\n  x = 1\nstate 1\n  x = 3\nstate 2\n  x = 2\nstate 3\n  x = 2\npassed\n",
+    ),
+    (
+        &[],
+        "t.asm",
+        "begin one step end begin two execblock one; end execblock two;",
+        0,
+        "state 0\n  x = 1\nstate 1\n  x = 2\nstate 2\n  x = 3\nstate 3\n  x = 3\npassed\n",
+    ),
+    (
+        &[],
+        "t.asm",
+        "exec x := undef; step",
+        4,
+        "state 0\n  x = 1\nstate 1\n  x = undef\nstop: undefined guard at t.asm:7:1\n",
+    ),
+    (&[], "t.asm", "set x := 1;", 3, "s.avalla:3:5: bad set: x\n"),
+    (
+        &[],
+        "t.asm",
+        "check x; set x := 1;",
+        3,
+        "s.avalla:3:7: wrong type: x\n",
+    ),
+    (
+        &[],
+        "t.asm",
+        "check x = $v;",
+        3,
+        "s.avalla:3:11: unbound variable: $v\n",
+    ),
+    (
+        &[],
+        "t.asm",
+        "step until 2147483648 * 2147483648 * 2 > 0;",
+        3,
+        "s.avalla:3:12: range too wide: 2147483648\n",
+    ),
+    (
+        &[],
+        "t.asm",
+        "exec r_up[1];",
+        3,
+        "s.avalla:3:6: unknown name: r_up\n",
+    ),
+    (
+        &[],
+        "t.asm",
+        "exec x := 4;",
+        4,
+        "state 0\n  x = 1\nstop: bad value 4 for x at s.avalla:3:6\n",
+    ),
+    (&[], "u", "", 3, "u.asm: no such file\n"),
+    (&[], "t.asm", "check", 3, "s.avalla:4:1: syntax error\n"),
+    (&[], "s.avalla", "", 3, "s.avalla:1:1: syntax error\n"),
+    (
+        &[],
+        "m.asm",
+        "set m := true; set n := true; step step check x;",
+        0,
+        "state 0\n  x = undef\nstate 1\n  x = true\nstate 2\n  x = true\ncheck 1 passed\npassed\n",
+    ),
+    (
+        &[],
+        "m.asm",
+        "check isUndef(x); check m;",
+        4,
+        "state 0\n  x = undef\ncheck 1 passed\nstop: no input for m\n",
+    ),
+    (
+        &[],
+        "m.asm",
+        "check x;",
+        1,
+        "state 0\n  x = undef\ncheck 1 failed\nfailed\n",
+    ),
+    (
+        &[],
+        "h.asm",
+        "set s := true; check s; step check not s;",
+        0,
+        "state 0\n  s = true\n  x = true\ncheck 1 passed\nstate 1\n  s = false\n  x = true\ncheck 2 passed\npassed\n",
+    ),
+    (
+        &[],
+        "h.asm",
+        "step set s := true; step step check true;",
+        4,
+        "state 0\n  s = true\n  x = true\nstate 1\n  s = false\n  x = true\nstate 2\n  s = false\n  x = true\nstate 3\n  s = false\n  x = false\nstop: invariant 1\n",
+    ),
+    (
+        &["--choices", "1,0"],
+        "t.asm",
+        "exec choose $v in D do x := $v; exec choose $v in D do x := $v;",
+        0,
+        "state 0\n  x = 1\nstate 1\n  x = 2\nstate 2\n  x = 1\npassed\n",
+    ),
+];
+
+/// How the play of a scenario over these models ends, and what it prints.
+fn play(alloc: Global, held: &str, options: &[&str]) -> Result<(Exit, NoFaultSink), Fail> {
+    let mut shelf = NoFaultShelf::new(alloc);
+    for (name, model) in CAST {
+        shelf.add(alloc, name, model.as_bytes())?;
+    }
+    shelf.add(alloc, "s.avalla", held.as_bytes())?;
+    let mut words = words(alloc, &["play", "s.avalla"])?;
+    for option in options {
+        words.push(Name::of(alloc, option)?)?;
+    }
+    let mut sink = NoFaultSink::new(alloc);
+    let exit = asmeta(alloc, &words, &mut shelf, &mut sink);
+    Ok((exit, sink))
+}
+
+#[test]
+fn each_scenario_has_its_play(rt: HostRuntime) -> Result<(), Fail> {
+    let alloc = rt.alloc();
+    for (options, load, commands, code, printed) in PLAYS {
+        let held = format!(in alloc; "scenario s\nload {load}\n{commands}\n")?;
+        let (exit, sink) = play(alloc, &held, options)?;
+        assert_eq!(rt; exit, Exit::Code(code), "{commands}");
+        assert_eq!(rt; sink.bytes(), printed.as_bytes(), "{commands}");
+    }
+    Ok(())
+}
+
+/// A scenario of five blocks that unfold to 100,000 commands, and of further ones.
+fn long_scenario(alloc: Global, further: &str) -> Result<String, Fail> {
+    let sets = repeated(alloc, "set m := true; ", 10)?;
+    let b = repeated(alloc, "execblock a; ", 9)?;
+    let c = repeated(alloc, "execblock a; execblock b; ", 9)?;
+    let d = repeated(alloc, "execblock a; execblock b; execblock c; ", 9)?;
+    let e = repeated(
+        alloc,
+        "execblock a; execblock b; execblock c; execblock d; ",
+        9,
+    )?;
+    Ok(format!(in alloc;
+        "scenario s load m.asm begin a {sets}end begin b {b}end begin c {c}end begin d {d}end begin e {e}end {further}"
+    )?)
+}
+
+#[test]
+fn scenarios_are_at_most_so_long(rt: HostRuntime) -> Result<(), Fail> {
+    let alloc = rt.alloc();
+    let passed = "state 0\n  x = undef\npassed\n";
+    for (further, code, printed) in [
+        ("", 0, passed),
+        ("set m := true;", 3, "s.avalla: scenario too long\n"),
+    ] {
+        let held = long_scenario(alloc, further)?;
+        let (exit, sink) = play(alloc, &held, &[])?;
+        assert_eq!(rt; exit, Exit::Code(code), "further: {further}");
+        assert_eq!(rt; sink.bytes(), printed.as_bytes(), "further: {further}");
+    }
+    for (count, code, printed) in [(64, 0, passed), (65, 3, "s.avalla: scenario too long\n")] {
+        let blocks = repeated(alloc, "begin a end ", count)?;
+        let held = format!(in alloc; "scenario s load m.asm {blocks}")?;
+        let (exit, sink) = play(alloc, &held, &[])?;
+        assert_eq!(rt; exit, Exit::Code(code), "{count} blocks");
+        assert_eq!(rt; sink.bytes(), printed.as_bytes(), "{count} blocks");
     }
     Ok(())
 }

@@ -3,7 +3,7 @@ ghost use Rattle.std.specs.Prelude.{◌≡◌, ◌≢◌, ◌≤◌, ◌↔◌};
 ghost use Rattle.asm_io.specs.Outside.{Told, Rose};
 ghost use Rattle.asm_cli.specs.Exit.{OnCode, OnFault};
 ghost use Rattle.asm_cli.specs.Words.{IsBadWords, seen};
-ghost use Rattle.asm_cli.specs.Answer.{answer, says_task, OneAnswer, Prints, PrintsPart, HasFileFault, IsDone, IsStopped};
+ghost use Rattle.asm_cli.specs.Answer.{answer, says_task, OneAnswer, Prints, PrintsPart, HasCause, HasFailed, HasFileFault, IsDone, IsStopped};
 
 use crate::check::check_model;
 use crate::command::{Task, asked};
@@ -11,6 +11,7 @@ use crate::exit::Exit;
 use crate::format::format_file;
 use crate::run::run_model;
 use crate::say::say;
+use crate::staging::play_scenario;
 use asm_io::{Shelf, Sink};
 use asm_list::Name;
 use std::alloc::Global;
@@ -28,7 +29,9 @@ pub fn asmeta<S: Shelf, K: Sink>(alloc: Global, words: &[Name], shelf: &mut S, s
     ensures bad_words { OnCode result (λ code. (code ≡ 2) ↔ IsBadWords words.now) }
     ensures file_fault { Told (S.files shelf.old) (λ files. OnCode result (λ code. (code ≡ 3) ↔ HasFileFault words.now files)) }
     ensures stopped { Told (S.files shelf.old) (λ files. OnCode result (λ code. (code ≡ 4) ↔ IsStopped words.now files)) }
+    ensures failed { Told (S.files shelf.old) (λ files. OnCode result (λ code. (code ≡ 1) ↔ HasFailed words.now files)) }
     ensures done { Told (S.files shelf.old) (λ files. OnCode result (λ code. (code ≡ 0) ↔ IsDone words.now files)) }
+    ensures complete { Told (S.files shelf.old) (λ files. OnCode result (HasCause words.now files)) }
 
     // The shelf's files stay, and no count of faults falls.
     ensures files { S.files shelf.new ≡ S.files shelf.old }
@@ -77,5 +80,6 @@ fn serve<S: Shelf, K: Sink>(alloc: Global, task: Task<'_>, shelf: &mut S, sink: 
         Task::Run(run) => run_model(alloc, run, shelf, sink),
         Task::Format(model) => format_file(alloc, model, shelf, sink),
         Task::Check(model) => check_model(alloc, model, shelf, sink),
+        Task::Play(staging) => play_scenario(alloc, staging, shelf, sink),
     }
 }

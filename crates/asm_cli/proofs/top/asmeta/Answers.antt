@@ -1,4 +1,4 @@
-use Rattle.asm_cli.proofs.Answering.{three_iff, four_iff, zero_iff}
+use Rattle.asm_cli.proofs.Answering.{three_iff, four_iff, one_iff, zero_iff, case_of}
 use Rattle.asm_cli.proofs.Replying.{on_code}
 use Rattle.asm_cli.proofs.top.asmeta.Goals as goal
 
@@ -10,3 +10,9 @@ returns-clause-stopped g c = λ files told. on_code c.command.result _ (c.comman
 
 pub returns-clause-done : goal.returns-clause-done
 returns-clause-done g c = λ files told. on_code c.command.result _ (c.command.ensures.answer files told) (λ k a. zero_iff c.args.words.now files a.text k a.is_said)
+
+pub returns-clause-failed : goal.returns-clause-failed
+returns-clause-failed g c = λ files told. on_code c.command.result _ (c.command.ensures.answer files told) (λ k a. one_iff c.args.words.now files a.text k a.is_said)
+
+pub returns-clause-complete : goal.returns-clause-complete
+returns-clause-complete g c = λ files told. on_code c.command.result _ (c.command.ensures.answer files told) (λ k a. case_of c.args.words.now files a.text k a.is_said)

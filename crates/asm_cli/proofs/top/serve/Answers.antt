@@ -20,3 +20,11 @@ returns-in-Check-clause-answer g c = λ files told.
 pub returns-in-Check-clause-prefix : goal.returns-in-Check-clause-prefix
 returns-in-Check-clause-prefix g c = λ files told.
     subst (λ (t : Task). OnFault c.check_model.result (PrintsPart (g.K.Sink.written c.args.sink.now) (g.K.Sink.written c.check_model.new.sink) (says_task (seen t) files))) (sym c.in-Check.is) (c.check_model.ensures.prefix files told)
+
+pub returns-in-Play-clause-answer : goal.returns-in-Play-clause-answer
+returns-in-Play-clause-answer g c = λ files told.
+    subst (λ (t : Task). OnCode c.play_scenario.result (Prints (g.K.Sink.written c.args.sink.now) (g.K.Sink.written c.play_scenario.new.sink) (says_task (seen t) files))) (sym c.in-Play.is) (c.play_scenario.ensures.answer files told)
+
+pub returns-in-Play-clause-prefix : goal.returns-in-Play-clause-prefix
+returns-in-Play-clause-prefix g c = λ files told.
+    subst (λ (t : Task). OnFault c.play_scenario.result (PrintsPart (g.K.Sink.written c.args.sink.now) (g.K.Sink.written c.play_scenario.new.sink) (says_task (seen t) files))) (sym c.in-Play.is) (c.play_scenario.ensures.prefix files told)

@@ -24,8 +24,6 @@ mod starts;
 mod taking;
 mod term_reader;
 mod terms;
-#[cfg(test)]
-mod tests;
 
 pub use binding::binders;
 pub use lexeme::Lexeme;

@@ -1,6 +1,8 @@
 //! The files of a model: their names, their imports, and what they spell.
 #![tactic(auto)]
 
+#[cfg(test)]
+mod body_tests;
 mod error;
 mod import;
 mod laws;

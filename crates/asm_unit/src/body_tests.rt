@@ -1,8 +1,10 @@
+//! The trees that the texts of terms and rules begin with.
+
 ghost use Rattle.std.specs.Prelude.{◌≡◌, ◌^◌, ◌<◌, ◌≤◌, length, Ok};
 ghost use Rattle.asm_lex.specs.Cut.{cut};
 ghost use Rattle.asm_tree.specs.Spelling.{limit};
 
-use crate::{one_tree, rule, term};
+use asm_body::{one_tree, rule, term};
 use asm_lex::{Token, lex};
 use asm_list::Boxed;
 use asm_tree::ParseError;

@@ -71,11 +71,13 @@ given_to v set n f =
     option_map (λ slot. (slot, x)) (slot_at v n vs)))
     else None
 
+-- the slot and the value that a setting of the function of this number gives, if it isn't bad
+abbrev pub given_by : Vocabulary → RawSet → ℕ → Option (ℕ × Value)
+given_by v set n = and_then (slice_get v.functions n) (λ f. given_to v set n f)
+
 -- the slot and the value that a setting gives, if it isn't bad
 abbrev pub given : Vocabulary → RawSet → Option (ℕ × Value)
-given v set =
-    and_then (position (λ (f : Function). same_name set.name.text f.name) v.functions) (λ n.
-    and_then (slice_get v.functions n) (λ f. given_to v set n f))
+given v set = and_then (position (λ (f : Function). same_name set.name.text f.name) v.functions) (λ n. given_by v set n)
 
 -- ---- inputs
 

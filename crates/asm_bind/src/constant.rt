@@ -80,7 +80,7 @@ fn place_of(names: &[Name], name: &Name) -> Option<usize>
 }
 
 /// Whether two names are the same.
-pub fn is_same_name(name: &Name, other: &Name) -> bool
+fn is_same_name(name: &Name, other: &Name) -> bool
     ensures { result ≡ same_name name.now other.now }
 {
     name.text() == other.text()

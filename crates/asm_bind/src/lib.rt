@@ -4,8 +4,9 @@
 mod constant;
 mod error;
 mod inputs;
+mod settable;
 mod setting;
 
 pub use error::BadSet;
 pub use inputs::bind_inputs;
-pub use setting::bind_set;
+pub use settable::{Settable, bind_set};

@@ -1,6 +1,5 @@
 //! Written commands over a model.
 ghost use Rattle.std.specs.Prelude.{◌≡◌, List, [], IfOk, IfErr};
-ghost use Rattle.asm_node.specs.Model.{machine_of};
 ghost use Rattle.asm_node.specs.RuleTree.{plain_rule};
 ghost use Rattle.asm_node.specs.Tree.{plain};
 ghost use Rattle.asm_node.specs.WellFormed.{IsCondition, IsRule};
@@ -13,9 +12,9 @@ ghost use Rattle.avalla_prepare.specs.Scenario.{first_of};
 ghost use Rattle.asm_bind.specs.Given.{given_or_name};
 
 use crate::error::ScenarioError;
-use asm_bind::{BadSet, bind_set};
+use asm_bind::{BadSet, Settable};
 use asm_io::Place;
-use asm_node::{Model, Rule, Term};
+use asm_node::{Rule, Term};
 use asm_resolve::ModelError;
 use asm_script::Script;
 use asm_tree::rule::RawRule;
@@ -29,20 +28,20 @@ use std::rc::Rc;
 #[derive(Drop)]
 pub(crate) struct Over<'m> {
     pub(crate) alloc: Global,
-    pub(crate) model: &'m Model,
     pub(crate) script: Script<'m>,
+    pub(crate) settable: Settable<'m>,
     pub(crate) file: u32,
 }
 
 /// The command of a setting.
 pub(crate) fn setting(over: &Over, set: &RawSet) -> Result<Command, ScenarioError>
-    requires { over.now.script ≡ machine_of over.now.model.now }
+    requires { over.now.settable ≡ over.now.script.signature }
     ensures faultless { IfOk result (λ command. set_faults over.now.file (given_or_name over.now.script.signature set.now) ≡ []) }
     ensures act { IfOk result (λ command. IsSetting over.now.script set.now (act_of command)) }
     ensures sound { IfOk result (λ command. IsAct over.now.script (act_of command)) }
     ensures fault { IfErr result (Tells (first_of (set_faults over.now.file (given_or_name over.now.script.signature set.now)))) }
 {
-    match bind_set(over.alloc, over.model, set) {
+    match over.settable.bind(set) {
         Ok((slot, value)) => Ok(Command::Set(slot, value)),
         Err(BadSet::At(at, name)) => {
             let file = over.file;

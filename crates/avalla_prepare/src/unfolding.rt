@@ -12,6 +12,7 @@ ghost use Rattle.avalla_prepare.specs.Scenario.{Block, first_of};
 use crate::blocks::{Ended, end_block, latest};
 use crate::error::ScenarioError;
 use crate::resolving::{Over, condition, rule, setting};
+use asm_bind::Settable;
 use asm_list::Listed;
 use asm_node::Model;
 use asm_script::Script;
@@ -50,10 +51,29 @@ fn unfolded_by(
     ensures grows { IfOk result (λ play. Grows script.entry file (scenario.met_after [] commands.now) [] (acts_of play)) }
     ensures fault { IfErr result (Tells (first_of (flat_map (command_faults script.entry file) (flat_map scenario.written_in commands.now)))) }
 {
+    match Settable::new(alloc, model) {
+        Ok(settable) => unfolded_with(alloc, script, settable, commands, file),
+        Err(_) => Err(ScenarioError::Memory),
+    }
+}
+
+/// The same by the functions of the model too.
+fn unfolded_with(
+    alloc: Global,
+    script: Script<'_>,
+    settable: Settable<'_>,
+    commands: &[RawScenarioCommand],
+    file: u32,
+) -> Result<Play, ScenarioError>
+    requires { settable ≡ script.signature }
+    ensures faultless { IfOk result (λ play. flat_map (command_faults script.entry file) (flat_map scenario.written_in commands.now) ≡ []) }
+    ensures grows { IfOk result (λ play. Grows script.entry file (scenario.met_after [] commands.now) [] (acts_of play)) }
+    ensures fault { IfErr result (Tells (first_of (flat_map (command_faults script.entry file) (flat_map scenario.written_in commands.now)))) }
+{
     let over = Over {
         alloc,
-        model,
         script,
+        settable,
         file,
     };
     unfolded_over(&over, commands)
@@ -61,7 +81,7 @@ fn unfolded_by(
 
 /// The commands of a scenario in the order in which they are met, or what is wrong first with one of them.
 fn unfolded_over(over: &Over, commands: &[RawScenarioCommand]) -> Result<Play, ScenarioError>
-    requires { over.now.script ≡ machine_of over.now.model.now }
+    requires { over.now.settable ≡ over.now.script.signature }
     ensures faultless { IfOk result (λ play. flat_map (command_faults over.now.script over.now.file) (flat_map scenario.written_in commands.now) ≡ []) }
     ensures grows { IfOk result (λ play. Grows over.now.script over.now.file (scenario.met_after [] commands.now) [] (acts_of play)) }
     ensures fault { IfErr result (Tells (first_of (flat_map (command_faults over.now.script over.now.file) (flat_map scenario.written_in commands.now)))) }
@@ -77,7 +97,7 @@ fn unfold_scenario(
     commands: &[RawScenarioCommand],
     order: &mut Play,
 ) -> Result<(), ScenarioError>
-    requires { over.now.script ≡ machine_of over.now.model.now }
+    requires { over.now.settable ≡ over.now.script.signature }
     ensures faultless { OnOk result (flat_map (command_faults over.now.script over.now.file) (flat_map scenario.written_in commands.now) ≡ []) }
     ensures grows { OnOk result (Grows over.now.script over.now.file (scenario.met_after [] commands.now) (acts_of order.old) (acts_of order.new)) }
     ensures fault { IfErr result (Tells (first_of (flat_map (command_faults over.now.script over.now.file) (flat_map scenario.written_in commands.now)))) }
@@ -99,7 +119,7 @@ fn unfold_command(
     command: &RawScenarioCommand,
     order: &mut Play,
 ) -> Result<(), ScenarioError>
-    requires { over.now.script ≡ machine_of over.now.model.now }
+    requires { over.now.settable ≡ over.now.script.signature }
     ensures faultless { OnOk result (flat_map (command_faults over.now.script over.now.file) (scenario.written_in command.now) ≡ []) }
     ensures grows { OnOk result ((blocks : List Block) → ArePlaced over.now.script over.now.file (acts_of order.old) blocks (spec.latest ended.now) → Grows over.now.script over.now.file (spec.met_by blocks command.now) (acts_of order.old) (acts_of order.new)) }
     ensures fault { IfErr result (Tells (first_of (flat_map (command_faults over.now.script over.now.file) (scenario.written_in command.now)))) }
@@ -119,7 +139,7 @@ fn unfold_all(
     commands: &[RawCommand],
     order: &mut Play,
 ) -> Result<(), ScenarioError>
-    requires { over.now.script ≡ machine_of over.now.model.now }
+    requires { over.now.settable ≡ over.now.script.signature }
     ensures faultless { OnOk result (flat_map (command_faults over.now.script over.now.file) commands.now ≡ []) }
     ensures grows { OnOk result ((blocks : List Block) → ArePlaced over.now.script over.now.file (acts_of order.old) blocks (spec.latest ended.now) → Grows over.now.script over.now.file (scenario.all_unfolded blocks commands.now) (acts_of order.old) (acts_of order.new)) }
     ensures fault { IfErr result (Tells (first_of (flat_map (command_faults over.now.script over.now.file) commands.now))) }
@@ -137,7 +157,7 @@ fn unfold(
     command: &RawCommand,
     order: &mut Play,
 ) -> Result<(), ScenarioError>
-    requires { over.now.script ≡ machine_of over.now.model.now }
+    requires { over.now.settable ≡ over.now.script.signature }
     ensures faultless { OnOk result (command_faults over.now.script over.now.file command.now ≡ []) }
     ensures grows { OnOk result ((blocks : List Block) → ArePlaced over.now.script over.now.file (acts_of order.old) blocks (spec.latest ended.now) → Grows over.now.script over.now.file (scenario.unfolded blocks command.now) (acts_of order.old) (acts_of order.new)) }
     ensures fault { IfErr result (Tells (first_of (command_faults over.now.script over.now.file command.now))) }

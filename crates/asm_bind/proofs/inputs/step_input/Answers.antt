@@ -1,4 +1,5 @@
-use Rattle.std.proofs.Common.{◌≡◌, ◌+◌, drop, Ok, sym, subst}
+use Rattle.std.proofs.Common.{◌≡◌, ◌∙◌, ◌+◌, drop, Ok, sym, ap, subst}
+use Rattle.asm_sign.specs.Vocabulary.{Vocabulary}
 use Rattle.asm_node.specs.Machine.{Input}
 use Rattle.asm_node.specs.Model.{machine_of}
 use Rattle.asm_node.specs.Step.{IsInput}
@@ -16,7 +17,7 @@ sets-init c = record {
 pub sets-preserved : goal.sets-preserved
 sets-preserved c =
     let m = machine_of c.args.model.now in
-    let given : given_or_name m.signature c.set-item.result ≡ Ok (c.in_ok-slot.slot, c.in_ok-slot.value) = c.in_ok-slot.ensures in
+    let given : given_or_name m.signature c.set-item.result ≡ Ok (c.in_ok-slot.slot, c.in_ok-slot.value) = ap (λ (v : Vocabulary). given_or_name v c.set-item.result) (sym c.requires) ∙ c.in_ok-slot.ensures in
     record {
       whole = subst (λ (i : Input). with_sets m.signature i (drop (c.sets.set-index + 1) c.slice-set-items.result.now) ≡ step_input m.signature c.args.step.now) (sym c.in_ok-set.ensures.ok)
           (set_met m.signature c.sets.input c.slice-set-items.result.now c.sets.set-index c.set-item.result c.sets-test.true c.set-item.is (step_input m.signature c.args.step.now) c.sets.invariant.whole (c.in_ok-slot.slot, c.in_ok-slot.value) given);

@@ -24,8 +24,8 @@ use Rattle.avalla_prepare.specs.declared.error.ScenarioError.{ScenarioError}
 use Rattle.avalla_prepare.specs.Prepared.{scenario_fault}
 use Rattle.asm_cli.specs.Counts.{counts_of, counts_text}
 use Rattle.asm_cli.specs.Fault.{fault_text, model_fault_text, bad_set_text, scenario_fault_text}
-use Rattle.asm_cli.specs.Scene.{scenario_in, cast_in, cast_for, play_under, says_play, says_scene, says_cast, says_sound_cast, says_prepared, IsLoaded, IsStaged, IsFaultOfPlay}
-use Rattle.asm_cli.specs.Scene as scene
+use Rattle.asm_cli.specs.Plays.{scenario_in, loaded_by, loaded_for, play_under, says_play, says_scenario, says_loaded, says_sound_play, says_prepared, IsLoaded, IsChecked, IsFaultOfPlay}
+use Rattle.asm_cli.specs.Plays as plays
 use Rattle.asm_cli.specs.Words.{Asked, ToRun, ToFormat, ToCheck, ToPlay, Plan, PlayPlan, asked_of}
 use Rattle.asm_cli.specs.Answer.{Says, says_bound, says_given, says_sound, says_run, says_canonical, says_faulted, says_checked, says_end, says_task, says_asked, answer, loaded, alone, settings, settings_for, run_under, set_place, end_code, OneAnswer, IsModel, IsRead, IsFirstFault, AreLoaded, HasFileFault, HasCause, HasFailed, EndsIn, PlaysTo, IsDone, IsStopped}
 use Rattle.asm_cli.specs.Answer as cause
@@ -75,23 +75,23 @@ module _ (t u : List ℕ) (k l : ℕ) where
   one_prepared plan sources units raw None a b = (a.text_is ∙ sym b.text_is, a.code_is ∙ sym b.code_is)
   one_prepared plan sources units raw (Some e) a b = one_line (scenario_fault_text sources e) t u 3 k l a b
 
-  one_sound_cast : (plan : PlayPlan) (sources : List Source) (units : List LoadedUnit) (raw : RawScenario) (o : Option Fault) → says_sound_cast plan sources units raw o t k → says_sound_cast plan sources units raw o u l → (t ≡ u) × (k ≡ l)
-  one_sound_cast plan sources units raw None a b = one_prepared plan sources units raw (scenario_fault (coded_machine units) 0 raw) a b
-  one_sound_cast plan sources units raw (Some f) a b = one_line (model_fault_text sources f.kind f.name (record { file = file_of units f.unit; at = f.at })) t u 3 k l a b
+  one_sound_play : (plan : PlayPlan) (sources : List Source) (units : List LoadedUnit) (raw : RawScenario) (o : Option Fault) → says_sound_play plan sources units raw o t k → says_sound_play plan sources units raw o u l → (t ≡ u) × (k ≡ l)
+  one_sound_play plan sources units raw None a b = one_prepared plan sources units raw (scenario_fault (coded_machine units) 0 raw) a b
+  one_sound_play plan sources units raw (Some f) a b = one_line (model_fault_text sources f.kind f.name (record { file = file_of units f.unit; at = f.at })) t u 3 k l a b
 
-  one_cast : (plan : PlayPlan) (raw : RawScenario) (sources : List Source) (end : Result (List LoadedUnit) LoadError) → says_end (says_cast plan raw) sources end t k → says_end (says_cast plan raw) sources end u l → (t ≡ u) × (k ≡ l)
-  one_cast plan raw sources (Ok units) a b = one_sound_cast plan sources units raw (model_fault units) a b
-  one_cast plan raw sources (Err e) a b = one_line (fault_text sources e) t u 3 k l a b
+  one_loaded : (plan : PlayPlan) (raw : RawScenario) (sources : List Source) (end : Result (List LoadedUnit) LoadError) → says_end (says_loaded plan raw) sources end t k → says_end (says_loaded plan raw) sources end u l → (t ≡ u) × (k ≡ l)
+  one_loaded plan raw sources (Ok units) a b = one_sound_play plan sources units raw (model_fault units) a b
+  one_loaded plan raw sources (Err e) a b = one_line (fault_text sources e) t u 3 k l a b
 
-  one_scene : (plan : PlayPlan) (files : Files) (sources : List Source) (end : Result RawScenario LoadError) → says_end (says_scene plan files) sources end t k → says_end (says_scene plan files) sources end u l → (t ≡ u) × (k ≡ l)
-  one_scene plan files sources (Ok raw) a b = one_cast plan raw (cast_in files plan.scenario sources raw).sources (cast_in files plan.scenario sources raw).end a b
-  one_scene plan files sources (Err e) a b = one_line (fault_text sources e) t u 3 k l a b
+  one_scenario : (plan : PlayPlan) (files : Files) (sources : List Source) (end : Result RawScenario LoadError) → says_end (says_scenario plan files) sources end t k → says_end (says_scenario plan files) sources end u l → (t ≡ u) × (k ≡ l)
+  one_scenario plan files sources (Ok raw) a b = one_loaded plan raw (loaded_by files plan.scenario sources raw).sources (loaded_by files plan.scenario sources raw).end a b
+  one_scenario plan files sources (Err e) a b = one_line (fault_text sources e) t u 3 k l a b
 
   one_task : (files : Files) (asked : Asked) → says_task asked files t k → says_task asked files u l → (t ≡ u) × (k ≡ l)
   one_task files (ToRun plan) a b = one_run plan files (loaded files plan.model).sources (loaded files plan.model).end a b
   one_task files (ToFormat model) a b = one_canonical (alone files model).sources (alone files model).end a b
   one_task files (ToCheck model) a b = one_checked (loaded files model).sources (loaded files model).end a b
-  one_task files (ToPlay plan) a b = one_scene plan files (scenario_in files plan.scenario).sources (scenario_in files plan.scenario).end a b
+  one_task files (ToPlay plan) a b = one_scenario plan files (scenario_in files plan.scenario).sources (scenario_in files plan.scenario).end a b
 
   one_asked : (files : Files) (o : Option Asked) → says_asked o files t k → says_asked o files u l → (t ≡ u) × (k ≡ l)
   one_asked files None a b = one_line (codes "asmeta: bad arguments") t u 2 k l a b
@@ -157,40 +157,40 @@ module _ (words : List (List ℕ)) (files : Files) where
   -- ---- plays
 
   module _ (plan : PlayPlan) (text : List ℕ) (k : ℕ) (is : asked_of words ≡ Some (ToPlay plan)) where
-    of_played : (end : Played) → PlaysTo words files end → k ≡ scene.end_code end → HasCause words files k
+    of_played : (end : Played) → PlaysTo words files end → k ≡ plays.end_code end → HasCause words files k
     of_played play.Passed e code = cause.done (inr (inr (inr e))) code
     of_played (play.CheckFailed number) e code = cause.fails (number, e) code
     of_played (play.Stopped s) e code = cause.stops (inl (s, inr e)) code
     of_played play.Budget e code = cause.stops (inr e) code
 
-    of_prepared : (raw : RawScenario) (units : List LoadedUnit) → IsStaged plan files raw units → (o : Option ScenarioError) → scenario_fault (coded_machine units) 0 raw ≡ o
-        → says_prepared plan (cast_for files plan raw).sources units raw o text k → HasCause words files k
-    of_prepared raw units staged None right a =
-        of_played (play_under plan (cast_for files plan raw).sources units raw).end
-        (record { plan = plan; raw = raw; units = units; asked_is = is; is_staged = staged; is_right = right; end_is = refl }) a.code_is
-    of_prepared raw units staged (Some e) wrong a =
-        cause.file_fault (inr (inr (inr record { plan = plan; raw = raw; units = units; error = e; asked_is = is; is_staged = staged; fault_is = wrong }))) a.code_is
+    of_prepared : (raw : RawScenario) (units : List LoadedUnit) → IsChecked plan files raw units → (o : Option ScenarioError) → scenario_fault (coded_machine units) 0 raw ≡ o
+        → says_prepared plan (loaded_for files plan raw).sources units raw o text k → HasCause words files k
+    of_prepared raw units checked None right a =
+        of_played (play_under plan (loaded_for files plan raw).sources units raw).end
+        (record { plan = plan; raw = raw; units = units; asked_is = is; is_checked = checked; is_right = right; end_is = refl }) a.code_is
+    of_prepared raw units checked (Some e) wrong a =
+        cause.file_fault (inr (inr (inr record { plan = plan; raw = raw; units = units; error = e; asked_is = is; is_checked = checked; fault_is = wrong }))) a.code_is
 
-    of_sound_cast : (raw : RawScenario) (units : List LoadedUnit) → IsLoaded plan files raw units → (o : Option Fault) → model_fault units ≡ o
-        → says_sound_cast plan (cast_for files plan raw).sources units raw o text k → HasCause words files k
-    of_sound_cast raw units are None none a = of_prepared raw units (record { is_loaded = are; no_fault = none }) (scenario_fault (coded_machine units) 0 raw) refl a
-    of_sound_cast raw units are (Some f) some a =
+    of_sound_play : (raw : RawScenario) (units : List LoadedUnit) → IsLoaded plan files raw units → (o : Option Fault) → model_fault units ≡ o
+        → says_sound_play plan (loaded_for files plan raw).sources units raw o text k → HasCause words files k
+    of_sound_play raw units are None none a = of_prepared raw units (record { is_loaded = are; no_fault = none }) (scenario_fault (coded_machine units) 0 raw) refl a
+    of_sound_play raw units are (Some f) some a =
         cause.file_fault (inr (inl record { asked = ToPlay plan; units = units; fault = f; asked_is = is; are_loaded = (raw, are); fault_is = some })) a.code_is
 
-    of_cast : (raw : RawScenario) → (scenario_in files plan.scenario).end ≡ Ok raw → (end : Result (List LoadedUnit) LoadError) → (cast_for files plan raw).end ≡ end
-        → says_end (says_cast plan raw) (cast_for files plan raw).sources end text k → HasCause words files k
-    of_cast raw spelled (Ok units) are a = of_sound_cast raw units (record { scenario_is = spelled; units_are = are }) (model_fault units) refl a
-    of_cast raw spelled (Err e) are a = of_refused (ToPlay plan) e k is (inr (raw, spelled, are)) a.code_is
+    of_loaded_play : (raw : RawScenario) → (scenario_in files plan.scenario).end ≡ Ok raw → (end : Result (List LoadedUnit) LoadError) → (loaded_for files plan raw).end ≡ end
+        → says_end (says_loaded plan raw) (loaded_for files plan raw).sources end text k → HasCause words files k
+    of_loaded_play raw spelled (Ok units) are a = of_sound_play raw units (record { scenario_is = spelled; units_are = are }) (model_fault units) refl a
+    of_loaded_play raw spelled (Err e) are a = of_refused (ToPlay plan) e k is (inr (raw, spelled, are)) a.code_is
 
-    of_scene : (end : Result RawScenario LoadError) → (scenario_in files plan.scenario).end ≡ end → says_end (says_scene plan files) (scenario_in files plan.scenario).sources end text k → HasCause words files k
-    of_scene (Ok raw) are a = of_cast raw are (cast_for files plan raw).end refl a
-    of_scene (Err e) are a = of_refused (ToPlay plan) e k is (inl are) a.code_is
+    of_scenario : (end : Result RawScenario LoadError) → (scenario_in files plan.scenario).end ≡ end → says_end (says_scenario plan files) (scenario_in files plan.scenario).sources end text k → HasCause words files k
+    of_scenario (Ok raw) are a = of_loaded_play raw are (loaded_for files plan raw).end refl a
+    of_scenario (Err e) are a = of_refused (ToPlay plan) e k is (inl are) a.code_is
 
   of_task : (text : List ℕ) (k : ℕ) (asked : Asked) → asked_of words ≡ Some asked → says_task asked files text k → HasCause words files k
   of_task text k (ToRun plan) is a = of_run plan text k is (loaded files plan.model).end refl a
   of_task text k (ToFormat model) is a = of_unit model text k is (alone files model).end refl a
   of_task text k (ToCheck model) is a = of_checked model text k is (loaded files model).end refl a
-  of_task text k (ToPlay plan) is a = of_scene plan text k is (scenario_in files plan.scenario).end refl a
+  of_task text k (ToPlay plan) is a = of_scenario plan text k is (scenario_in files plan.scenario).end refl a
 
   none_is : {A : Type 0} {o : Option A} → o ≡ None → IsNone o
   none_is is = ap is_some is
@@ -259,31 +259,31 @@ module _ (words : List (List ℕ)) (files : Files) where
   -- ---- plays
 
   module _ (plan : PlayPlan) (text : List ℕ) (k : ℕ) (is : asked_of words ≡ Some (ToPlay plan)) where
-    answered_scene : (end : Result RawScenario LoadError) → (scenario_in files plan.scenario).end ≡ end → says_end (says_scene plan files) (scenario_in files plan.scenario).sources end text k → Answered k
-    answered_scene end are a = answered (ToPlay plan) text k is (subst (λ (e : Result RawScenario LoadError). says_end (says_scene plan files) (scenario_in files plan.scenario).sources e text k) (sym are) a)
+    answered_scenario : (end : Result RawScenario LoadError) → (scenario_in files plan.scenario).end ≡ end → says_end (says_scenario plan files) (scenario_in files plan.scenario).sources end text k → Answered k
+    answered_scenario end are a = answered (ToPlay plan) text k is (subst (λ (e : Result RawScenario LoadError). says_end (says_scenario plan files) (scenario_in files plan.scenario).sources e text k) (sym are) a)
 
-    answered_cast : (raw : RawScenario) → (scenario_in files plan.scenario).end ≡ Ok raw → (end : Result (List LoadedUnit) LoadError) → (cast_for files plan raw).end ≡ end
-        → says_end (says_cast plan raw) (cast_for files plan raw).sources end text k → Answered k
-    answered_cast raw spelled end are a =
-        answered_scene (Ok raw) spelled (subst (λ (e : Result (List LoadedUnit) LoadError). says_end (says_cast plan raw) (cast_for files plan raw).sources e text k) (sym are) a)
+    answered_loaded : (raw : RawScenario) → (scenario_in files plan.scenario).end ≡ Ok raw → (end : Result (List LoadedUnit) LoadError) → (loaded_for files plan raw).end ≡ end
+        → says_end (says_loaded plan raw) (loaded_for files plan raw).sources end text k → Answered k
+    answered_loaded raw spelled end are a =
+        answered_scenario (Ok raw) spelled (subst (λ (e : Result (List LoadedUnit) LoadError). says_end (says_loaded plan raw) (loaded_for files plan raw).sources e text k) (sym are) a)
 
-    answered_sound_cast : (raw : RawScenario) (units : List LoadedUnit) → IsLoaded plan files raw units → (o : Option Fault) → model_fault units ≡ o
-        → says_sound_cast plan (cast_for files plan raw).sources units raw o text k → Answered k
-    answered_sound_cast raw units loaded o found a =
-        answered_cast raw loaded.scenario_is (Ok units) loaded.units_are
-        (subst (λ (f : Option Fault). says_sound_cast plan (cast_for files plan raw).sources units raw f text k) (sym found) a)
+    answered_sound_play : (raw : RawScenario) (units : List LoadedUnit) → IsLoaded plan files raw units → (o : Option Fault) → model_fault units ≡ o
+        → says_sound_play plan (loaded_for files plan raw).sources units raw o text k → Answered k
+    answered_sound_play raw units loaded o found a =
+        answered_loaded raw loaded.scenario_is (Ok units) loaded.units_are
+        (subst (λ (f : Option Fault). says_sound_play plan (loaded_for files plan raw).sources units raw f text k) (sym found) a)
 
-    answered_prepared : (raw : RawScenario) (units : List LoadedUnit) → IsStaged plan files raw units → (o : Option ScenarioError) → scenario_fault (coded_machine units) 0 raw ≡ o
-        → says_prepared plan (cast_for files plan raw).sources units raw o text k → Answered k
-    answered_prepared raw units staged o found a =
-        answered_sound_cast raw units staged.is_loaded None staged.no_fault
-        (subst (λ (e : Option ScenarioError). says_prepared plan (cast_for files plan raw).sources units raw e text k) (sym found) a)
+    answered_prepared : (raw : RawScenario) (units : List LoadedUnit) → IsChecked plan files raw units → (o : Option ScenarioError) → scenario_fault (coded_machine units) 0 raw ≡ o
+        → says_prepared plan (loaded_for files plan raw).sources units raw o text k → Answered k
+    answered_prepared raw units checked o found a =
+        answered_sound_play raw units checked.is_loaded None checked.no_fault
+        (subst (λ (e : Option ScenarioError). says_prepared plan (loaded_for files plan raw).sources units raw e text k) (sym found) a)
 
   play_refused : (plan : PlayPlan) (e : LoadError) → asked_of words ≡ Some (ToPlay plan) → IsFaultOfPlay plan files e → Answered 3
   play_refused plan e is (inl first) =
-      answered_scene plan (with_end (fault_text (scenario_in files plan.scenario).sources e)) 3 is (Err e) first (line_of (fault_text (scenario_in files plan.scenario).sources e) 3)
+      answered_scenario plan (with_end (fault_text (scenario_in files plan.scenario).sources e)) 3 is (Err e) first (line_of (fault_text (scenario_in files plan.scenario).sources e) 3)
   play_refused plan e is (inr (raw, spelled, first)) =
-      answered_cast plan (with_end (fault_text (cast_for files plan raw).sources e)) 3 is raw spelled (Err e) first (line_of (fault_text (cast_for files plan raw).sources e) 3)
+      answered_loaded plan (with_end (fault_text (loaded_for files plan raw).sources e)) 3 is raw spelled (Err e) first (line_of (fault_text (loaded_for files plan raw).sources e) 3)
 
   refused_answered : (asked : Asked) (e : LoadError) → asked_of words ≡ Some asked → IsFirstFault asked files e → Answered 3
   refused_answered (ToRun plan) e is first = run_refused plan e is first
@@ -301,7 +301,7 @@ module _ (words : List (List ℕ)) (files : Files) where
   faulty_answered (ToCheck x) units f is are found =
       answered_faulted x (with_end (fault_line (loaded files x).sources units f)) 3 is units are (Some f) found (line_of (fault_line (loaded files x).sources units f) 3)
   faulty_answered (ToPlay plan) units f is (raw, loaded) found =
-      answered_sound_cast plan (with_end (fault_line (cast_for files plan raw).sources units f)) 3 is raw units loaded (Some f) found (line_of (fault_line (cast_for files plan raw).sources units f) 3)
+      answered_sound_play plan (with_end (fault_line (loaded_for files plan raw).sources units f)) 3 is raw units loaded (Some f) found (line_of (fault_line (loaded_for files plan raw).sources units f) 3)
 
   fault_answered : HasFileFault words files → Answered 3
   fault_answered (inl f) = refused_answered f.asked f.fault f.asked_is f.is_first
@@ -310,18 +310,18 @@ module _ (words : List (List ℕ)) (files : Files) where
       answered_bound f.plan (with_end (bad_set_text (settings_for files f.plan).sources (set_place (length (loaded files f.plan.model).sources) f.name) f.name.text)) 3 f.is_read.asked_is f.units f.raw f.is_read (Err f.name) f.is_bad
       (line_of (bad_set_text (settings_for files f.plan).sources (set_place (length (loaded files f.plan.model).sources) f.name) f.name.text) 3)
   fault_answered (inr (inr (inr f))) =
-      answered_prepared f.plan (with_end (scenario_fault_text (cast_for files f.plan f.raw).sources f.error)) 3 f.asked_is f.raw f.units f.is_staged (Some f.error) f.fault_is
-      (line_of (scenario_fault_text (cast_for files f.plan f.raw).sources f.error) 3)
+      answered_prepared f.plan (with_end (scenario_fault_text (loaded_for files f.plan f.raw).sources f.error)) 3 f.asked_is f.raw f.units f.is_checked (Some f.error) f.fault_is
+      (line_of (scenario_fault_text (loaded_for files f.plan f.raw).sources f.error) 3)
 
   run_answered : (end : RunEnd) → EndsIn words files end → Answered (end_code end)
   run_answered end e =
       answered_bound e.plan (run_under e.plan (coded_machine e.units) (settings_for files e.plan).sources e.raw e.inputs).text (end_code end) e.is_read.asked_is e.units e.raw e.is_read (Ok e.inputs) e.are_given
       (record { text_is = refl; code_is = ap end_code (sym e.end_is) })
 
-  play_answered : (end : Played) → PlaysTo words files end → Answered (scene.end_code end)
+  play_answered : (end : Played) → PlaysTo words files end → Answered (plays.end_code end)
   play_answered end e =
-      answered_prepared e.plan (play_under e.plan (cast_for files e.plan e.raw).sources e.units e.raw).text (scene.end_code end) e.asked_is e.raw e.units e.is_staged None e.is_right
-      (record { text_is = refl; code_is = ap scene.end_code (sym e.end_is) })
+      answered_prepared e.plan (play_under e.plan (loaded_for files e.plan e.raw).sources e.units e.raw).text (plays.end_code end) e.asked_is e.raw e.units e.is_checked None e.is_right
+      (record { text_is = refl; code_is = ap plays.end_code (sym e.end_is) })
 
   stop_answered : IsStopped words files → Answered 4
   stop_answered (inl (s, inl e)) = run_answered (Stopped s) e

@@ -6,6 +6,6 @@ pub mod Replying
 pub mod Numbered
 pub mod Played
 pub mod Serving
-pub mod Staged
+pub mod Playing
 pub mod Renamed
 pub mod Settled

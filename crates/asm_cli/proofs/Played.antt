@@ -50,7 +50,7 @@ use Rattle.avalla_play.specs.Printed.{Printed, finished, first_point, from_start
 use Rattle.avalla_prepare.specs.declared.error.ScenarioError.{ScenarioError}
 use Rattle.avalla_prepare.specs.Prepared.{IsActOf, AreActsOf, command_faults, model_faults, or_missing, or_too_long, scenario_fault}
 use Rattle.avalla_prepare.specs.Scenario.{commands_met, commands_written, is_too_long, missing_block}
-use Rattle.asm_cli.specs.Scene.{coded_act, coded_acts, setting_act}
+use Rattle.asm_cli.specs.Plays.{coded_act, coded_acts, setting_act}
 
 -- ---- acts that do the same over two machines
 

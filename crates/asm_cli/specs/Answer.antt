@@ -30,7 +30,7 @@ use Rattle.avalla_prepare.specs.declared.error.ScenarioError.{ScenarioError}
 use Rattle.avalla_prepare.specs.Prepared.{scenario_fault}
 use Rattle.asm_cli.specs.Counts.{counts_of, counts_text}
 use Rattle.asm_cli.specs.Fault.{model_fault_text, bad_set_text}
-use Rattle.asm_cli.specs.Scene.{IsCast, IsFaultOfPlay, IsStaged, cast_for, play_under, says_play}
+use Rattle.asm_cli.specs.Plays.{AreUnitsOfPlay, IsFaultOfPlay, IsChecked, loaded_for, play_under, says_play}
 use Rattle.asm_cli.specs.Words.{Asked, ToRun, ToFormat, ToCheck, ToPlay, Plan, PlayPlan, IsBadWords, asked_of}
 use Rattle.asm_cli.specs.Saying.{read_as}
 pub use Rattle.asm_cli.specs.Saying.{Saying, SaysBytes, Says, says_end, says_outcome, most_input_bytes}
@@ -173,7 +173,7 @@ abbrev pub AreLoaded : Asked → Files → List LoadedUnit → Type 0
 AreLoaded (ToRun plan) files units = (loaded files plan.model).end ≡ Ok units
 AreLoaded (ToFormat model) files units = ⊥
 AreLoaded (ToCheck model) files units = (loaded files model).end ≡ Ok units
-AreLoaded (ToPlay plan) files units = IsCast plan files units
+AreLoaded (ToPlay plan) files units = AreUnitsOfPlay plan files units
 
 -- something is wrong with the model to run, to check or to play
 pub record IsFaulty (words : List (List ℕ)) (files : Files) : Type 0 where
@@ -200,18 +200,18 @@ pub record HasBadSet (words : List (List ℕ)) (files : Files) : Type 0 where
   pub is_bad : inputs_of (coded_machine units).signature raw ≡ Err name
 
 -- something is wrong with the scenario to play
-pub record HasBadScene (words : List (List ℕ)) (files : Files) : Type 0 where
+pub record HasBadScenario (words : List (List ℕ)) (files : Files) : Type 0 where
   pub plan : PlayPlan
   pub raw : RawScenario
   pub units : List LoadedUnit
   pub error : ScenarioError
   pub asked_is : asked_of words ≡ Some (ToPlay plan)
-  pub is_staged : IsStaged plan files raw units
+  pub is_checked : IsChecked plan files raw units
   pub fault_is : scenario_fault (coded_machine units) 0 raw ≡ Some error
 
 -- a file has a fault, a model has one, a setting is bad, or something is wrong with a scenario
 abbrev pub HasFileFault : List (List ℕ) → Files → Type 0
-HasFileFault words files = IsRefused words files ⊎ (IsFaulty words files ⊎ (HasBadSet words files ⊎ HasBadScene words files))
+HasFileFault words files = IsRefused words files ⊎ (IsFaulty words files ⊎ (HasBadSet words files ⊎ HasBadScenario words files))
 
 -- the run that the words ask ends so
 pub record EndsIn (words : List (List ℕ)) (files : Files) (end : RunEnd) : Type 0 where
@@ -229,9 +229,9 @@ pub record PlaysTo (words : List (List ℕ)) (files : Files) (end : Played) : Ty
   pub raw : RawScenario
   pub units : List LoadedUnit
   pub asked_is : asked_of words ≡ Some (ToPlay plan)
-  pub is_staged : IsStaged plan files raw units
+  pub is_checked : IsChecked plan files raw units
   pub is_right : scenario_fault (coded_machine units) 0 raw ≡ None
-  pub end_is : (play_under plan (cast_for files plan raw).sources units raw).end ≡ end
+  pub end_is : (play_under plan (loaded_for files plan raw).sources units raw).end ≡ end
 
 -- the file to format is a unit
 pub record IsFormatted (words : List (List ℕ)) (files : Files) : Type 0 where

@@ -4,5 +4,5 @@ pub mod Exit
 pub mod Fault
 pub mod Reply
 pub mod Saying
-pub mod Scene
+pub mod Plays
 pub mod Words

@@ -40,13 +40,13 @@ Refuses written faults old new sources (TooManyFiles name) exit = Replies writte
 Refuses written faults old new sources load.Memory exit = EndsQuiet written faults old new Memory exit
 
 -- It prints the line of what is wrong with a scenario; after want of memory it ends without a code.
-abbrev pub RefusesScene : {K : Type 0} → (K → Option (List ℕ)) → (K → ℕ) → K → K → List Source → ScenarioError → Exit → Type 0
-RefusesScene written faults old new sources (NoBlock name place) exit = Replies written faults old new (Says (scenario_fault_text sources (NoBlock name place)) 3) exit
-RefusesScene written faults old new sources (BadSet name place) exit = Replies written faults old new (Says (scenario_fault_text sources (BadSet name place)) 3) exit
-RefusesScene written faults old new sources (Model (resolve.Fault kind name place)) exit = Replies written faults old new (Says (scenario_fault_text sources (Model (resolve.Fault kind name place))) 3) exit
-RefusesScene written faults old new sources (Model resolve.Memory) exit = EndsQuiet written faults old new Memory exit
-RefusesScene written faults old new sources (scenario.TooLong file) exit = Replies written faults old new (Says (scenario_fault_text sources (scenario.TooLong file)) 3) exit
-RefusesScene written faults old new sources scenario.Memory exit = EndsQuiet written faults old new Memory exit
+abbrev pub RefusesScenario : {K : Type 0} → (K → Option (List ℕ)) → (K → ℕ) → K → K → List Source → ScenarioError → Exit → Type 0
+RefusesScenario written faults old new sources (NoBlock name place) exit = Replies written faults old new (Says (scenario_fault_text sources (NoBlock name place)) 3) exit
+RefusesScenario written faults old new sources (BadSet name place) exit = Replies written faults old new (Says (scenario_fault_text sources (BadSet name place)) 3) exit
+RefusesScenario written faults old new sources (Model (resolve.Fault kind name place)) exit = Replies written faults old new (Says (scenario_fault_text sources (Model (resolve.Fault kind name place))) 3) exit
+RefusesScenario written faults old new sources (Model resolve.Memory) exit = EndsQuiet written faults old new Memory exit
+RefusesScenario written faults old new sources (scenario.TooLong file) exit = Replies written faults old new (Says (scenario_fault_text sources (scenario.TooLong file)) 3) exit
+RefusesScenario written faults old new sources scenario.Memory exit = EndsQuiet written faults old new Memory exit
 
 -- It reads from a shelf, and prints a text of this relation with its code, or ends without a code after a prefix of one. No code is that of bad words.
 pub record Serves {S K : Type 0} (files : S → Option Files) (failed : S → ℕ) (written : K → Option (List ℕ)) (faults : K → ℕ) (shelf_old shelf_new : S) (old new : K) (says : Files → Saying) (exit : Exit) : Type 0 where

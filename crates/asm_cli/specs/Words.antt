@@ -5,7 +5,7 @@ use Rattle.std.specs.Option.{option_map, unwrap_or}
 use denote.Ref.{Bor}
 use Rattle.asm_cli.specs.declared.option.Options as option
 use Rattle.asm_cli.specs.declared.command.Run.{Run}
-use Rattle.asm_cli.specs.declared.command.Staging.{Staging}
+use Rattle.asm_cli.specs.declared.command.ScenarioPlay.{ScenarioPlay}
 use Rattle.asm_cli.specs.declared.command.Task.{Task}
 use Rattle.asm_cli.specs.declared.command.Task.TheVariants as task
 
@@ -153,13 +153,13 @@ abbrev pub usual_budget : ℕ
 usual_budget = 1000
 
 -- a play takes no number of steps
-abbrev pub staged : List ℕ → Options → Option Asked
-staged scenario o = unless_given o.steps (ToPlay (record { scenario = scenario; choices = unwrap_or o.choices []; budget = unwrap_or o.budget usual_budget }))
+abbrev pub play_planned : List ℕ → Options → Option Asked
+play_planned scenario o = unless_given o.steps (ToPlay (record { scenario = scenario; choices = unwrap_or o.choices []; budget = unwrap_or o.budget usual_budget }))
 
 -- `play SCENARIO [--choices W,W,..] [--budget N]`, options in any order
 abbrev pub play_asked : List (List ℕ) → Option Asked
 play_asked [] = None
-play_asked (scenario ∷ words) = if is_position scenario then and_then (options_from no_options words) (staged scenario) else None
+play_asked (scenario ∷ words) = if is_position scenario then and_then (options_from no_options words) (play_planned scenario) else None
 
 -- one file alone
 abbrev pub file_asked : (List ℕ → Asked) → List (List ℕ) → Option Asked
@@ -198,11 +198,11 @@ name_seen name = option_map (λ word. word.now) name
 abbrev pub plan_seen : Run → Plan
 plan_seen run = record { model = run.model.now; inputs = name_seen run.inputs; steps = run.steps; choices = run.choices }
 
-abbrev pub staging_seen : Staging → PlayPlan
-staging_seen staging = record { scenario = staging.scenario.now; choices = staging.choices; budget = staging.budget }
+abbrev pub play_plan_seen : ScenarioPlay → PlayPlan
+play_plan_seen plan = record { scenario = plan.scenario.now; choices = plan.choices; budget = plan.budget }
 
 abbrev pub seen : Task → Asked
 seen (task.Run run) = ToRun (plan_seen run)
 seen (task.Format model) = ToFormat model.now
 seen (task.Check model) = ToCheck model.now
-seen (task.Play staging) = ToPlay (staging_seen staging)
+seen (task.Play plan) = ToPlay (play_plan_seen plan)

@@ -21,7 +21,7 @@ pub struct Run<'a> {
 
 /// A play of a scenario.
 #[derive(Debug, Drop)]
-pub struct Staging<'a> {
+pub struct ScenarioPlay<'a> {
     /// The scenario's file as it was given.
     pub scenario: &'a str,
     pub choices: Listed<u32>,
@@ -40,7 +40,7 @@ pub enum Task<'a> {
     Format(&'a str),
     /// The check of the model of this name.
     Check(&'a str),
-    Play(Staging<'a>),
+    Play(ScenarioPlay<'a>),
 }
 
 /// What the words ask, where they are in the grammar: `check MODEL`, `format MODEL`,
@@ -163,22 +163,22 @@ fn play_with<'a>(
     scenario: &'a str,
     words: &[Name],
 ) -> Result<Option<Task<'a>>, AllocError>
-    ensures { IfOk result (λ t. option_map seen t ≡ spec.and_then (spec.options_from spec.no_options words.now) (spec.staged scenario.now)) }
+    ensures { IfOk result (λ t. option_map seen t ≡ spec.and_then (spec.options_from spec.no_options words.now) (spec.play_planned scenario.now)) }
 {
     match options_in(alloc, words)? {
-        Some(options) => Ok(staged(alloc, scenario, options)),
+        Some(options) => Ok(play_planned(alloc, scenario, options)),
         None => Ok(None),
     }
 }
 
 /// The play of a scenario with these options, which takes no number of steps.
-fn staged<'a>(alloc: Global, scenario: &'a str, options: Options) -> Option<Task<'a>>
-    ensures { option_map seen result ≡ spec.staged scenario.now (options_seen options) }
+fn play_planned<'a>(alloc: Global, scenario: &'a str, options: Options) -> Option<Task<'a>>
+    ensures { option_map seen result ≡ spec.play_planned scenario.now (options_seen options) }
 {
     if options.steps.is_some() {
         return None;
     }
-    Some(Task::Play(Staging {
+    Some(Task::Play(ScenarioPlay {
         scenario,
         choices: or_none(alloc, options.choices),
         budget: options.budget.unwrap_or(USUAL_BUDGET),

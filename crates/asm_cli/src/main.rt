@@ -11,11 +11,11 @@ mod fire_tests;
 mod format;
 mod model_fault;
 mod option;
+mod play;
 mod run;
 mod say;
-mod scene_file;
+mod scenario_file;
 mod settings;
-mod staging;
 #[cfg(test)]
 mod tests;
 mod top;

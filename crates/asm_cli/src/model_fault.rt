@@ -2,7 +2,7 @@
 ghost use Rattle.std.specs.Prelude.{◌≡◌, ◌≤◌, ◌++◌, ◌∷◌, [], All, length, codes, IfOk, OnOk};
 ghost use Rattle.asm_text.specs.Texts.{place_text};
 ghost use Rattle.asm_cli.specs.Fault.{model_message, model_fault_text, bad_set_text, name_in, no_block_text};
-ghost use Rattle.asm_cli.specs.Reply.{Replies, RefusesScene};
+ghost use Rattle.asm_cli.specs.Reply.{Replies, RefusesScenario};
 ghost use Rattle.asm_cli.specs.Answer.{most_input_bytes, Says};
 
 use crate::exit::Exit;
@@ -58,7 +58,7 @@ pub fn refuse_scenario<K: Sink>(
     sink: &mut K,
 ) -> Exit
     requires { All (λ source. length source.text ≤ most_input_bytes) sources.now }
-    ensures { RefusesScene K.written K.faults sink.old sink.new sources.now error.now result }
+    ensures { RefusesScenario K.written K.faults sink.old sink.new sources.now error.now result }
 {
     match error {
         ScenarioError::NoBlock(name, place) => refuse_block(alloc, sources, name, *place, sink),

@@ -1118,7 +1118,7 @@ fn a_word_that_is_no_text_is_empty(rt: HostRuntime) -> Result<(), Fail> {
 }
 
 /// A model that counts up to 3, one that keeps what two monitored functions say, and one with a shared function.
-const CAST: [(&str, &str); 3] = [
+const MODELS: [(&str, &str); 3] = [
     (
         "t.asm",
         "asm t\nsignature:\ndomain D subsetof Integer controlled x : D\ndefinitions:\ndomain D = {1:3} rule r_to($v in D) = x := $v\nmain rule r_Main =\nif x < 3 then x := x + 1 endif\ndefault init s0:\nfunction x = 1\n",
@@ -1312,7 +1312,7 @@ const PLAYS: [(&[&str], &str, &str, u8, &str); 28] = [
 /// How the play of a scenario over these models ends, and what it prints.
 fn play(alloc: Global, held: &str, options: &[&str]) -> Result<(Exit, NoFaultSink), Fail> {
     let mut shelf = NoFaultShelf::new(alloc);
-    for (name, model) in CAST {
+    for (name, model) in MODELS {
         shelf.add(alloc, name, model.as_bytes())?;
     }
     shelf.add(alloc, "s.avalla", held.as_bytes())?;
@@ -1325,12 +1325,22 @@ fn play(alloc: Global, held: &str, options: &[&str]) -> Result<(Exit, NoFaultSin
     Ok((exit, sink))
 }
 
+/// How the play of a scenario with these commands ends, and what it prints.
+fn play_of(
+    alloc: Global,
+    options: &[&str],
+    load: &str,
+    commands: &str,
+) -> Result<(Exit, NoFaultSink), Fail> {
+    let held = format!(in alloc; "scenario s\nload {load}\n{commands}\n")?;
+    play(alloc, &held, options)
+}
+
 #[test]
 fn each_scenario_has_its_play(rt: HostRuntime) -> Result<(), Fail> {
     let alloc = rt.alloc();
     for (options, load, commands, code, printed) in PLAYS {
-        let held = format!(in alloc; "scenario s\nload {load}\n{commands}\n")?;
-        let (exit, sink) = play(alloc, &held, options)?;
+        let (exit, sink) = play_of(alloc, options, load, commands)?;
         assert_eq!(rt; exit, Exit::Code(code), "{commands}");
         assert_eq!(rt; sink.bytes(), printed.as_bytes(), "{commands}");
     }
@@ -1353,23 +1363,41 @@ fn long_scenario(alloc: Global, further: &str) -> Result<String, Fail> {
     )?)
 }
 
+/// How the play of such a scenario ends, and what it prints.
+fn long_play(alloc: Global, further: &str) -> Result<(Exit, NoFaultSink), Fail> {
+    let held = long_scenario(alloc, further)?;
+    play(alloc, &held, &[])
+}
+
 #[test]
-fn scenarios_are_at_most_so_long(rt: HostRuntime) -> Result<(), Fail> {
+fn at_most_100_000_commands_are_met(rt: HostRuntime) -> Result<(), Fail> {
     let alloc = rt.alloc();
-    let passed = "state 0\n  x = undef\npassed\n";
     for (further, code, printed) in [
-        ("", 0, passed),
+        ("", 0, "state 0\n  x = undef\npassed\n"),
         ("set m := true;", 3, "s.avalla: scenario too long\n"),
     ] {
-        let held = long_scenario(alloc, further)?;
-        let (exit, sink) = play(alloc, &held, &[])?;
+        let (exit, sink) = long_play(alloc, further)?;
         assert_eq!(rt; exit, Exit::Code(code), "further: {further}");
         assert_eq!(rt; sink.bytes(), printed.as_bytes(), "further: {further}");
     }
-    for (count, code, printed) in [(64, 0, passed), (65, 3, "s.avalla: scenario too long\n")] {
-        let blocks = repeated(alloc, "begin a end ", count)?;
-        let held = format!(in alloc; "scenario s load m.asm {blocks}")?;
-        let (exit, sink) = play(alloc, &held, &[])?;
+    Ok(())
+}
+
+/// How the play of a scenario of so many blocks without commands ends, and what it prints.
+fn blocks_play(alloc: Global, count: usize) -> Result<(Exit, NoFaultSink), Fail> {
+    let blocks = repeated(alloc, "begin a end ", count)?;
+    let held = format!(in alloc; "scenario s load m.asm {blocks}")?;
+    play(alloc, &held, &[])
+}
+
+#[test]
+fn at_most_64_blocks_are_taken(rt: HostRuntime) -> Result<(), Fail> {
+    let alloc = rt.alloc();
+    for (count, code, printed) in [
+        (64, 0, "state 0\n  x = undef\npassed\n"),
+        (65, 3, "s.avalla: scenario too long\n"),
+    ] {
+        let (exit, sink) = blocks_play(alloc, count)?;
         assert_eq!(rt; exit, Exit::Code(code), "{count} blocks");
         assert_eq!(rt; sink.bytes(), printed.as_bytes(), "{count} blocks");
     }

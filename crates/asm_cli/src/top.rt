@@ -9,9 +9,9 @@ use crate::check::check_model;
 use crate::command::{Task, asked};
 use crate::exit::Exit;
 use crate::format::format_file;
+use crate::play::play_scenario;
 use crate::run::run_model;
 use crate::say::say;
-use crate::staging::play_scenario;
 use asm_io::{Shelf, Sink};
 use asm_list::Name;
 use std::alloc::Global;
@@ -80,6 +80,6 @@ fn serve<S: Shelf, K: Sink>(alloc: Global, task: Task<'_>, shelf: &mut S, sink: 
         Task::Run(run) => run_model(alloc, run, shelf, sink),
         Task::Format(model) => format_file(alloc, model, shelf, sink),
         Task::Check(model) => check_model(alloc, model, shelf, sink),
-        Task::Play(staging) => play_scenario(alloc, staging, shelf, sink),
+        Task::Play(plan) => play_scenario(alloc, plan, shelf, sink),
     }
 }

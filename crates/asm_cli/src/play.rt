@@ -10,14 +10,14 @@ ghost use Rattle.avalla_play.specs.Printed.{play_of};
 ghost use Rattle.avalla_prepare.specs.Prepared.{scenario_fault};
 ghost use Rattle.asm_cli.specs.Reply.{Replies, Serves};
 ghost use Rattle.asm_cli.specs.Saying.{most_input_bytes, says_outcome};
-ghost use Rattle.asm_cli.specs.Scene.{SaysPlay, cast_in, model_named, says_cast, says_play, says_prepared, says_scene};
-ghost use Rattle.asm_cli.specs.Words.{staging_seen};
+ghost use Rattle.asm_cli.specs.Plays.{SaysPlay, loaded_by, model_named, says_loaded, says_play, says_prepared, says_scenario};
+ghost use Rattle.asm_cli.specs.Words.{play_plan_seen};
 
-use crate::command::Staging;
+use crate::command::ScenarioPlay;
 use crate::exit::Exit;
 use crate::fault::refuse_load;
 use crate::model_fault::{refuse_model, refuse_scenario};
-use crate::scene_file::scenario_file;
+use crate::scenario_file::read_scenario;
 use asm_io::{Shelf, Sink, Sources};
 use asm_list::{Listed, Name};
 use asm_node::{Model, Words};
@@ -34,36 +34,36 @@ use std::alloc::{AllocError, Global};
 /// Plays a scenario, and prints its states and its checks.
 pub fn play_scenario<S: Shelf, K: Sink>(
     alloc: Global,
-    staging: Staging<'_>,
+    plan: ScenarioPlay<'_>,
     shelf: &mut S,
     sink: &mut K,
 ) -> Exit
-    ensures { Serves S.files S.faults K.written K.faults shelf.old shelf.new sink.old sink.new (says_play (staging_seen staging.entry)) result }
+    ensures { Serves S.files S.faults K.written K.faults shelf.old shelf.new sink.old sink.new (says_play (play_plan_seen plan.entry)) result }
 {
     let mut sources = Sources::new(alloc);
-    match scenario_file(alloc, staging.scenario, shelf, &mut sources) {
-        Ok(raw) => play_scene(alloc, staging, &raw, &mut sources, shelf, sink),
+    match read_scenario(alloc, plan.scenario, shelf, &mut sources) {
+        Ok(raw) => play_read(alloc, plan, &raw, &mut sources, shelf, sink),
         Err(error) => refuse_load(alloc, &sources, &error, sink),
     }
 }
 
 /// Plays a scenario, whose file was read.
-fn play_scene<S: Shelf, K: Sink>(
+fn play_read<S: Shelf, K: Sink>(
     alloc: Global,
-    staging: Staging<'_>,
+    plan: ScenarioPlay<'_>,
     raw: &RawScenario,
     sources: &mut Sources,
     shelf: &mut S,
     sink: &mut K,
 ) -> Exit
     requires { All (λ source. length source.text ≤ most_input_bytes) sources.old }
-    ensures { Serves S.files S.faults K.written K.faults shelf.old shelf.new sink.old sink.new (λ files. says_scene (staging_seen staging.entry) files sources.old raw.now) result }
+    ensures { Serves S.files S.faults K.written K.faults shelf.old shelf.new sink.old sink.new (λ files. says_scenario (play_plan_seen plan.entry) files sources.old raw.now) result }
 {
     if sources.len() >= 1 << 31 {
         return Exit::Memory;
     }
-    match model_name(alloc, staging.scenario, raw) {
-        Ok(model) => play_over(alloc, staging, raw, &model, sources, shelf, sink),
+    match model_name(alloc, plan.scenario, raw) {
+        Ok(model) => play_over(alloc, plan, raw, &model, sources, shelf, sink),
         Err(_) => Exit::Memory,
     }
 }
@@ -79,7 +79,7 @@ fn model_name(alloc: Global, scenario: &str, raw: &RawScenario) -> Result<Name, 
 /// Plays a scenario over the model of this name.
 fn play_over<S: Shelf, K: Sink>(
     alloc: Global,
-    staging: Staging<'_>,
+    plan: ScenarioPlay<'_>,
     raw: &RawScenario,
     model: &Name,
     sources: &mut Sources,
@@ -88,11 +88,11 @@ fn play_over<S: Shelf, K: Sink>(
 ) -> Exit
     requires few { length sources.old < 2 ^ 31 }
     requires short { All (λ source. length source.text ≤ most_input_bytes) sources.old }
-    requires named { model.now ≡ model_named (staging_seen staging).scenario raw.now }
-    ensures { Serves S.files S.faults K.written K.faults shelf.old shelf.new sink.old sink.new (λ files. says_scene (staging_seen staging.entry) files sources.old raw.now) result }
+    requires named { model.now ≡ model_named (play_plan_seen plan).scenario raw.now }
+    ensures { Serves S.files S.faults K.written K.faults shelf.old shelf.new sink.old sink.new (λ files. says_scenario (play_plan_seen plan.entry) files sources.old raw.now) result }
 {
     match load_all(alloc, shelf, model.text(), sources) {
-        Ok(units) => play_units(alloc, staging, raw, &units, sources, sink),
+        Ok(units) => play_units(alloc, plan, raw, &units, sources, sink),
         Err(error) => refuse_load(alloc, sources, &error, sink),
     }
 }
@@ -100,7 +100,7 @@ fn play_over<S: Shelf, K: Sink>(
 /// Plays a scenario over the model of these units.
 fn play_units<K: Sink>(
     alloc: Global,
-    staging: Staging<'_>,
+    plan: ScenarioPlay<'_>,
     raw: &RawScenario,
     units: &Units,
     sources: &Sources,
@@ -108,10 +108,10 @@ fn play_units<K: Sink>(
 ) -> Exit
     requires known { AreUnits sources.now units.now }
     requires short { All (λ source. length source.text ≤ most_input_bytes) sources.now }
-    ensures { Replies K.written K.faults sink.old sink.new (says_cast (staging_seen staging.entry) raw.now sources.now units.now) result }
+    ensures { Replies K.written K.faults sink.old sink.new (says_loaded (play_plan_seen plan.entry) raw.now sources.now units.now) result }
 {
     match resolve(alloc, units) {
-        Ok(model) => play_in(alloc, staging, raw, units, &model, sources, sink),
+        Ok(model) => play_in(alloc, plan, raw, units, &model, sources, sink),
         Err(ModelError::Fault(kind, name, place)) => {
             refuse_model(alloc, sources, kind, &name, place, sink)
         }
@@ -122,7 +122,7 @@ fn play_units<K: Sink>(
 /// Plays a scenario over the model of these units, in which nothing is wrong.
 fn play_in<K: Sink>(
     alloc: Global,
-    staging: Staging<'_>,
+    plan: ScenarioPlay<'_>,
     raw: &RawScenario,
     units: &Units,
     model: &Model,
@@ -132,15 +132,15 @@ fn play_in<K: Sink>(
     requires model { IsModelOf units.now (machine_of model.now) }
     requires faultless { model_fault units.now ≡ None }
     requires short { All (λ source. length source.text ≤ most_input_bytes) sources.now }
-    ensures { Replies K.written K.faults sink.old sink.new (says_prepared (staging_seen staging.entry) sources.now units.now raw.now (scenario_fault (coded_machine units.now) 0 raw.now)) result }
+    ensures { Replies K.written K.faults sink.old sink.new (says_prepared (play_plan_seen plan.entry) sources.now units.now raw.now (scenario_fault (coded_machine units.now) 0 raw.now)) result }
 {
     numbers_are_free();
     script_numbers_are_free();
-    let Staging {
+    let ScenarioPlay {
         scenario: _,
         choices,
         budget,
-    } = staging;
+    } = plan;
     match prepare(alloc, model, raw, 0) {
         Ok(commands) => play_prepared(alloc, model, &commands, choices, budget, sources, sink),
         Err(error) => refuse_scenario(alloc, sources, &error, sink),

@@ -5,7 +5,7 @@ ghost use Rattle.asm_lex.specs.Cut.{cut};
 ghost use Rattle.asm_unit.specs.Loading.{Follows, OnRead, AddsFiles, Judges};
 ghost use Rattle.avalla_parse.specs.Parsed.{parsed_scenario};
 ghost use Rattle.asm_cli.specs.Saying as spec;
-ghost use Rattle.asm_cli.specs.Scene.{scenario_in};
+ghost use Rattle.asm_cli.specs.Plays.{scenario_in};
 
 use crate::fault::text_in;
 use crate::settings::{MOST_BYTES, parse_fault};
@@ -17,7 +17,7 @@ use avalla_parse::scenario;
 use std::alloc::Global;
 
 /// The scenario of this name, whose file is the first of the sources.
-pub fn scenario_file<S: Shelf>(
+pub fn read_scenario<S: Shelf>(
     alloc: Global,
     name: &str,
     shelf: &mut S,

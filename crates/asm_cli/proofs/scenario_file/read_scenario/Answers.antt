@@ -5,7 +5,7 @@ use Rattle.asm_unit.specs.Loading.{Follows, Judges, tokens_in}
 use Rattle.avalla_parse.specs.Parsed.{parsed_scenario}
 use Rattle.asm_cli.specs.Saying.{most_input_bytes, read_as, spelled}
 use Rattle.asm_cli.proofs.Settled.{read_follows}
-use Rattle.asm_cli.proofs.scene_file.scenario_file.Goals as goal
+use Rattle.asm_cli.proofs.scenario_file.read_scenario.Goals as goal
 
 pub returns-clause-told : goal.returns-clause-told
 returns-clause-told g c = λ files told.

@@ -42,8 +42,8 @@ abbrev pub model_named : List ℕ → RawScenario → List ℕ
 model_named scenario raw = import_name (normalised scenario) raw.load
 
 -- what the model's files come to, which are read after the scenario's
-abbrev pub cast_in : Files → List ℕ → List Source → RawScenario → Outcome (List LoadedUnit)
-cast_in files scenario sources raw = units_in files (model_named scenario raw) sources
+abbrev pub loaded_by : Files → List ℕ → List Source → RawScenario → Outcome (List LoadedUnit)
+loaded_by files scenario sources raw = units_in files (model_named scenario raw) sources
 
 -- ---- what the commands do
 
@@ -88,39 +88,39 @@ says_prepared plan sources units raw None text code = SaysPlay (play_under plan 
 says_prepared plan sources units raw (Some e) text code = Says (scenario_fault_text sources e) 3 text code
 
 -- the play over a model in which nothing is wrong, or the line of its first fault
-abbrev pub says_sound_cast : PlayPlan → List Source → List LoadedUnit → RawScenario → Option Fault → Saying
-says_sound_cast plan sources units raw None text code = says_prepared plan sources units raw (scenario_fault (coded_machine units) 0 raw) text code
-says_sound_cast plan sources units raw (Some f) text code = Says (model_fault_text sources f.kind f.name (record { file = file_of units f.unit; at = f.at })) 3 text code
+abbrev pub says_sound_play : PlayPlan → List Source → List LoadedUnit → RawScenario → Option Fault → Saying
+says_sound_play plan sources units raw None text code = says_prepared plan sources units raw (scenario_fault (coded_machine units) 0 raw) text code
+says_sound_play plan sources units raw (Some f) text code = Says (model_fault_text sources f.kind f.name (record { file = file_of units f.unit; at = f.at })) 3 text code
 
 -- the play of a scenario over the model of these units
-abbrev pub says_cast : PlayPlan → RawScenario → List Source → List LoadedUnit → Saying
-says_cast plan raw sources units text code = says_sound_cast plan sources units raw (model_fault units) text code
+abbrev pub says_loaded : PlayPlan → RawScenario → List Source → List LoadedUnit → Saying
+says_loaded plan raw sources units text code = says_sound_play plan sources units raw (model_fault units) text code
 
 -- the play of a scenario, of which this file was read
-abbrev pub says_scene : PlayPlan → Files → List Source → RawScenario → Saying
-says_scene plan files sources raw text code = says_outcome (says_cast plan raw) (cast_in files plan.scenario sources raw) text code
+abbrev pub says_scenario : PlayPlan → Files → List Source → RawScenario → Saying
+says_scenario plan files sources raw text code = says_outcome (says_loaded plan raw) (loaded_by files plan.scenario sources raw) text code
 
 -- what the play of a scenario prints: the scenario's file comes first, then its model, then its commands
 abbrev pub says_play : PlayPlan → Files → Saying
-says_play plan files text code = says_outcome (says_scene plan files) (scenario_in files plan.scenario) text code
+says_play plan files text code = says_outcome (says_scenario plan files) (scenario_in files plan.scenario) text code
 
 -- ---- how a play is read
 
 -- the model's files of a scenario
-abbrev pub cast_for : Files → PlayPlan → RawScenario → Outcome (List LoadedUnit)
-cast_for files plan raw = cast_in files plan.scenario (scenario_in files plan.scenario).sources raw
+abbrev pub loaded_for : Files → PlayPlan → RawScenario → Outcome (List LoadedUnit)
+loaded_for files plan raw = loaded_by files plan.scenario (scenario_in files plan.scenario).sources raw
 
 -- the scenario is spelled so, and these are the units of the model that it loads
 pub record IsLoaded (plan : PlayPlan) (files : Files) (raw : RawScenario) (units : List LoadedUnit) : Type 0 where
   pub scenario_is : (scenario_in files plan.scenario).end ≡ Ok raw
-  pub units_are : (cast_for files plan raw).end ≡ Ok units
+  pub units_are : (loaded_for files plan raw).end ≡ Ok units
 
 -- these are the units of the model of a scenario
-abbrev pub IsCast : PlayPlan → Files → List LoadedUnit → Type 0
-IsCast plan files units = (raw : RawScenario) × IsLoaded plan files raw units
+abbrev pub AreUnitsOfPlay : PlayPlan → Files → List LoadedUnit → Type 0
+AreUnitsOfPlay plan files units = (raw : RawScenario) × IsLoaded plan files raw units
 
 -- the scenario is spelled so, and these are the units of its model, in which nothing is wrong
-pub record IsStaged (plan : PlayPlan) (files : Files) (raw : RawScenario) (units : List LoadedUnit) : Type 0 where
+pub record IsChecked (plan : PlayPlan) (files : Files) (raw : RawScenario) (units : List LoadedUnit) : Type 0 where
   pub is_loaded : IsLoaded plan files raw units
   pub no_fault : model_fault units ≡ None
 
@@ -128,4 +128,4 @@ pub record IsStaged (plan : PlayPlan) (files : Files) (raw : RawScenario) (units
 abbrev pub IsFaultOfPlay : PlayPlan → Files → LoadError → Type 0
 IsFaultOfPlay plan files fault =
     ((scenario_in files plan.scenario).end ≡ Err fault)
-    ⊎ ((raw : RawScenario) × ((scenario_in files plan.scenario).end ≡ Ok raw) × ((cast_for files plan raw).end ≡ Err fault))
+    ⊎ ((raw : RawScenario) × ((scenario_in files plan.scenario).end ≡ Ok raw) × ((loaded_for files plan raw).end ≡ Err fault))

@@ -24,9 +24,9 @@ use Rattle.avalla_prepare.specs.Prepared.{Tells, scenario_fault}
 use Rattle.asm_cli.specs.declared.exit.Exit.{Exit}
 use Rattle.asm_cli.specs.declared.exit.Exit.TheVariants as ending
 use Rattle.asm_cli.specs.Fault.{model_fault_text, scenario_fault_text}
-use Rattle.asm_cli.specs.Reply.{Replies, RefusesScene, EndsQuiet}
+use Rattle.asm_cli.specs.Reply.{Replies, RefusesScenario, EndsQuiet}
 use Rattle.asm_cli.specs.Saying.{Saying, Says, most_input_bytes}
-use Rattle.asm_cli.specs.Scene.{SaysPlay, end_code, play_under, says_prepared, says_sound_cast, says_cast}
+use Rattle.asm_cli.specs.Plays.{SaysPlay, end_code, play_under, says_prepared, says_sound_play, says_loaded}
 use Rattle.asm_cli.specs.Words.{PlayPlan}
 use Rattle.asm_cli.proofs.Checking.{nothing_said}
 use Rattle.asm_cli.proofs.Serving.{IsGood, good_line}
@@ -50,35 +50,35 @@ module _ (plan : PlayPlan) (raw : RawScenario) (sources : List Source) (units : 
   prepared_good None t k s = end_is_good _ k s.code_is
   prepared_good (Some e) t k s = good_line (scenario_fault_text sources e) t k s
 
-  sound_good : (o : Option Found) → IsGood (says_sound_cast plan sources units raw o)
+  sound_good : (o : Option Found) → IsGood (says_sound_play plan sources units raw o)
   sound_good None t k s = prepared_good (scenario_fault (coded_machine units) 0 raw) t k s
   sound_good (Some f) t k s = good_line _ t k s
 
-  pub cast_good : IsGood (says_cast plan raw sources units)
-  cast_good t k s = sound_good (model_fault units) t k s
+  pub loaded_good : IsGood (says_loaded plan raw sources units)
+  loaded_good t k s = sound_good (model_fault units) t k s
 
 -- ---- the model
 
 module _ {K : Type 0} (written : K → Option (List ℕ)) (faults : K → ℕ) (old new : K) (plan : PlayPlan) (raw : RawScenario) (sources : List Source) (units : List LoadedUnit) (exit : Exit) where
   -- nothing is wrong with the model
-  pub cast_sound : model_fault units ≡ None → Replies written faults old new (says_prepared plan sources units raw (scenario_fault (coded_machine units) 0 raw)) exit → Replies written faults old new (says_cast plan raw sources units) exit
-  cast_sound none r = subst (λ (o : Option Found). Replies written faults old new (says_sound_cast plan sources units raw o) exit) (sym none) r
+  pub loaded_sound : model_fault units ≡ None → Replies written faults old new (says_prepared plan sources units raw (scenario_fault (coded_machine units) 0 raw)) exit → Replies written faults old new (says_loaded plan raw sources units) exit
+  loaded_sound none r = subst (λ (o : Option Found). Replies written faults old new (says_sound_play plan sources units raw o) exit) (sym none) r
 
   says_told : ModelError → Saying
   says_told (resolve.Fault kind name place) text code = Says (model_fault_text sources kind name place) 3 text code
   says_told resolve.Memory text code = Unit {0}
 
-  cast_by : (o : Option Found) (kind : ModelFault) (name : List ℕ) (place : Place) → option_map (told_of units) o ≡ Some (resolve.Fault kind name place)
-      → Replies written faults old new (Says (model_fault_text sources kind name place) 3) exit → Replies written faults old new (says_sound_cast plan sources units raw o) exit
+  loaded_fault_by : (o : Option Found) (kind : ModelFault) (name : List ℕ) (place : Place) → option_map (told_of units) o ≡ Some (resolve.Fault kind name place)
+      → Replies written faults old new (Says (model_fault_text sources kind name place) 3) exit → Replies written faults old new (says_sound_play plan sources units raw o) exit
   unfolding says_told
-  cast_by None kind name place told r = absurd (never (resolve.Fault kind name place) told)
-  cast_by (Some f) kind name place told r =
+  loaded_fault_by None kind name place told r = absurd (never (resolve.Fault kind name place) told)
+  loaded_fault_by (Some f) kind name place told r =
       subst (λ (e : ModelError). Replies written faults old new (says_told e) exit) (sym (same_some (told_of units f) (resolve.Fault kind name place) told)) r
 
   -- something is wrong with the model
-  pub cast_fault : (kind : ModelFault) (name : List ℕ) (place : Place) → option_map (told_of units) (model_fault units) ≡ Some (resolve.Fault kind name place)
-      → Replies written faults old new (Says (model_fault_text sources kind name place) 3) exit → Replies written faults old new (says_cast plan raw sources units) exit
-  cast_fault kind name place told r = cast_by (model_fault units) kind name place told r
+  pub loaded_fault : (kind : ModelFault) (name : List ℕ) (place : Place) → option_map (told_of units) (model_fault units) ≡ Some (resolve.Fault kind name place)
+      → Replies written faults old new (Says (model_fault_text sources kind name place) 3) exit → Replies written faults old new (says_loaded plan raw sources units) exit
+  loaded_fault kind name place told r = loaded_fault_by (model_fault units) kind name place told r
 
   -- ---- the commands
 
@@ -100,7 +100,7 @@ module _ {K : Type 0} (written : K → Option (List ℕ)) (faults : K → ℕ) (
       (subst (λ (k : K). Replies written faults old k (says_prepared plan sources units raw o) ending.Memory) (sym q.same) (nothing_said written faults old (says_prepared plan sources units raw o)))
 
   -- something is wrong with the scenario
-  pub prepared_wrong : (o : Option ScenarioError) (e : ScenarioError) → Tells o e → RefusesScene written faults old new sources e exit → prepared_so o
+  pub prepared_wrong : (o : Option ScenarioError) (e : ScenarioError) → Tells o e → RefusesScenario written faults old new sources e exit → prepared_so o
   prepared_wrong o (NoBlock name place) told r = wrong_so o (NoBlock name place) told r
   prepared_wrong o (BadSet name place) told r = wrong_so o (BadSet name place) told r
   prepared_wrong o (Model (resolve.Fault kind name place)) told r = wrong_so o (Model (resolve.Fault kind name place)) told r

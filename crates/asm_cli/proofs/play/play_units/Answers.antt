@@ -1,0 +1,17 @@
+use Rattle.std.proofs.Common.{subst}
+use Rattle.asm_faults.specs.Check.{model_fault}
+use Rattle.asm_resolve.specs.declared.error.ModelError.{ModelError}
+use Rattle.asm_resolve.specs.Resolved.{Tells}
+use Rattle.asm_cli.specs.Words.{play_plan_seen}
+use Rattle.asm_cli.proofs.Playing.{loaded_sound, loaded_fault}
+use Rattle.asm_cli.proofs.play.play_units.Goals as goal
+
+pub returns-in-Ok : goal.returns-in-Ok
+returns-in-Ok g c =
+    loaded_sound g.K.Sink.written g.K.Sink.faults c.args.sink.now c.play_in.new.sink (play_plan_seen c.args.plan) c.args.raw.now c.args.sources.now c.args.units.now c.play_in.result c.in-Ok.ensures.faultless c.play_in.ensures
+
+pub returns-in-Err-Fault : goal.returns-in-Err-Fault
+returns-in-Err-Fault g c =
+    loaded_fault g.K.Sink.written g.K.Sink.faults c.args.sink.now c.refuse_model.new.sink (play_plan_seen c.args.plan) c.args.raw.now c.args.sources.now c.args.units.now c.refuse_model.result
+    c.in-Err-Fault.kind c.in-Err-Fault.name c.in-Err-Fault.place
+    (subst (λ (e : ModelError). Tells c.args.units.now (model_fault c.args.units.now) e) c.in-Err-Fault.field-0-is c.in-Err-Fault.ensures.fault) c.refuse_model.ensures

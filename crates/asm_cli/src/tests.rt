@@ -557,14 +557,19 @@ const ENDS: [(&str, &str); 2] = [
     ("par x := y y := x ", "t.asm:7:19: syntax error\n"),
 ];
 
+/// How the run of a model that ends with this text ends, and what it prints.
+fn run_to_end(alloc: Global, rule: &str) -> Result<(Exit, NoFaultSink), Fail> {
+    let held = format!(in alloc;
+        "asm t\nsignature:\ncontrolled x : Boolean controlled y : Boolean\ndefinitions:\n\nmain rule r_Main =\n{rule}"
+    )?;
+    run(alloc, &held, &["run", "t.asm"])
+}
+
 #[test]
 fn each_cut_rule_has_its_line(rt: HostRuntime) -> Result<(), Fail> {
     let alloc = rt.alloc();
     for (rule, printed) in ENDS {
-        let held = format!(in alloc;
-            "asm t\nsignature:\ncontrolled x : Boolean controlled y : Boolean\ndefinitions:\n\nmain rule r_Main =\n{rule}"
-        )?;
-        let (exit, sink) = run(alloc, &held, &["run", "t.asm"])?;
+        let (exit, sink) = run_to_end(alloc, rule)?;
         assert_eq!(rt; exit, Exit::Code(3), "{rule}");
         assert_eq!(rt; sink.bytes(), printed.as_bytes(), "{rule}");
     }
@@ -863,14 +868,22 @@ const CHECKS: [(&str, &str, &str, u8, &str); 30] = [
     ),
 ];
 
+/// How the check of a model of nine lines ends, and what it prints.
+fn check_of(
+    alloc: Global,
+    signature: &str,
+    definitions: &str,
+    main: &str,
+) -> Result<(Exit, NoFaultSink), Fail> {
+    let held = model(alloc, signature, definitions, main, "")?;
+    run(alloc, &held, &["check", "t.asm"])
+}
+
 #[test]
 fn each_model_is_checked(rt: HostRuntime) -> Result<(), Fail> {
     let alloc = rt.alloc();
     for (signature, definitions, main, code, printed) in CHECKS {
-        let held = format!(in alloc;
-            "asm t\nsignature:\n{signature}\ndefinitions:\n{definitions}\nmain rule r_Main =\n{main}\ndefault init s0:\n\n"
-        )?;
-        let (exit, sink) = run(alloc, &held, &["check", "t.asm"])?;
+        let (exit, sink) = check_of(alloc, signature, definitions, main)?;
         assert_eq!(rt; exit, Exit::Code(code), "{signature} {definitions} {main}");
         assert_eq!(rt;
             sink.bytes(),
@@ -986,96 +999,135 @@ fn functions(alloc: Global, count: usize) -> Result<String, Fail> {
     Ok(all)
 }
 
+/// How the run of a model of so many bytes ends, of which most are blanks.
+fn run_of_size(alloc: Global, count: usize) -> Result<Exit, Fail> {
+    let mut held = model(alloc, "", "", "skip", "")?;
+    let blanks = repeated(alloc, " ", count - held.len().min(count))?;
+    held.push_str(&blanks)?;
+    let (exit, _) = run(alloc, &held, &["run", "t.asm"])?;
+    Ok(exit)
+}
+
 #[test]
-fn each_limit_is_kept(rt: HostRuntime) -> Result<(), Fail> {
-    let alloc = rt.alloc();
-    let small = model(alloc, "", "", "skip", "")?;
+fn at_most_262_144_bytes_are_read(rt: HostRuntime) -> Result<(), Fail> {
     for (count, code) in [(262_144, 0), (262_145, 3)] {
-        let mut held = small.clone()?;
-        held.push_str(&repeated(alloc, " ", count - held.len().min(count))?)?;
-        let (exit, _) = run(alloc, &held, &["run", "t.asm"])?;
+        let exit = run_of_size(rt.alloc(), count)?;
         assert_eq!(rt; exit, Exit::Code(code), "{count} bytes");
     }
+    Ok(())
+}
+
+/// How a step of a main rule ends that nests so many times.
+fn run_of_depth(alloc: Global, count: usize) -> Result<Exit, Fail> {
+    let begin = repeated(alloc, "par ", count)?;
+    let end = repeated(alloc, " endpar", count)?;
+    let rule = format!(in alloc; "{begin}skip{end}")?;
+    let held = model(alloc, "", "", &rule, "")?;
+    let (exit, _) = run(alloc, &held, &["run", "t.asm", "--steps", "1"])?;
+    Ok(exit)
+}
+
+#[test]
+fn rules_nest_64_deep(rt: HostRuntime) -> Result<(), Fail> {
     for (count, code) in [(64, 0), (65, 3)] {
-        let begin = repeated(alloc, "par ", count)?;
-        let end = repeated(alloc, " endpar", count)?;
-        let held = model(alloc, "", "", &format!(in alloc; "{begin}skip{end}")?, "")?;
-        let (exit, _) = run(alloc, &held, &["run", "t.asm", "--steps", "1"])?;
+        let exit = run_of_depth(rt.alloc(), count)?;
         assert_eq!(rt; exit, Exit::Code(code), "nested {count} times");
     }
+    Ok(())
+}
+
+/// How a step of a model of so many functions ends.
+fn run_of_functions(alloc: Global, count: usize) -> Result<Exit, Fail> {
+    let signature = functions(alloc, count)?;
+    let held = model(alloc, &signature, "", "skip", "")?;
+    let (exit, _) = run(alloc, &held, &["run", "t.asm", "--steps", "1"])?;
+    Ok(exit)
+}
+
+#[test]
+fn at_most_4096_locations_are_kept(rt: HostRuntime) -> Result<(), Fail> {
     for (count, code) in [(4096, 0), (4097, 3)] {
-        let held = model(alloc, &functions(alloc, count)?, "", "skip", "")?;
-        let (exit, _) = run(alloc, &held, &["run", "t.asm", "--steps", "1"])?;
+        let exit = run_of_functions(rt.alloc(), count)?;
         assert_eq!(rt; exit, Exit::Code(code), "{count} functions");
     }
     Ok(())
 }
 
+/// How a command ends over an update by a term that opens so many parentheses, and what it prints.
+fn opened(alloc: Global, count: usize, command: &str) -> Result<(Exit, NoFaultSink), Fail> {
+    let parentheses = repeated(alloc, "(", count)?;
+    let rule = format!(in alloc; "x := {parentheses}")?;
+    let held = model(alloc, "controlled x : Boolean", "", &rule, "")?;
+    run(alloc, &held, &[command, "t.asm"])
+}
+
 #[test]
 fn parentheses_nest_64_deep(rt: HostRuntime) -> Result<(), Fail> {
-    let alloc = rt.alloc();
-    for (count, printed) in [
-        (64, "t.asm:8:1: syntax error\n"),
-        (65, "t.asm:7:70: nested too deep\n"),
+    for (count, command, printed) in [
+        (64, "run", "t.asm:8:1: syntax error\n"),
+        (65, "run", "t.asm:7:70: nested too deep\n"),
+        (64, "format", "t.asm:8:1: syntax error\n"),
+        (65, "format", "t.asm:7:70: nested too deep\n"),
     ] {
-        let rule = format!(in alloc; "x := {}", repeated(alloc, "(", count)?)?;
-        let held = model(alloc, "controlled x : Boolean", "", &rule, "")?;
-        for command in ["run", "format"] {
-            let (exit, sink) = run(alloc, &held, &[command, "t.asm"])?;
-            assert_eq!(rt; exit, Exit::Code(3), "{count} parentheses");
-            assert_eq!(rt; sink.bytes(), printed.as_bytes(), "{count} parentheses");
-        }
+        let (exit, sink) = opened(rt.alloc(), count, command)?;
+        assert_eq!(rt; exit, Exit::Code(3), "{count} parentheses");
+        assert_eq!(rt; sink.bytes(), printed.as_bytes(), "{count} parentheses");
     }
     Ok(())
+}
+
+const SMALL_MODEL: &str =
+    "asm t signature: controlled x : Boolean definitions: main rule r_M = skip default init s0:";
+
+const SMALL_MODULE: &str = "module t signature: definitions:";
+
+/// How a command over the one file `t.asm` ends where the call of this number of the shelf, or of the sink, fails, the latter
+/// after so many bytes, and what it prints. No call has the number 0.
+fn failing(
+    alloc: Global,
+    command: &str,
+    held: &str,
+    read: u64,
+    write: u64,
+    taken: u64,
+) -> Result<(Exit, MemorySink), Fail> {
+    let mut shelf = MemoryShelf::new(alloc);
+    shelf.add(alloc, "t.asm", held.as_bytes())?;
+    shelf.fail(read)?;
+    let mut sink = MemorySink::new(alloc);
+    sink.fail(write)?;
+    sink.taken(taken);
+    let words = words(alloc, &[command, "t.asm"])?;
+    let exit = asmeta(alloc, &words, &mut shelf, &mut sink);
+    Ok((exit, sink))
 }
 
 #[test]
 fn faults_end_the_call(rt: HostRuntime) -> Result<(), Fail> {
-    let alloc = rt.alloc();
-    let held = model(alloc, "controlled x : Boolean", "", "skip", "")?;
-    let words = words(alloc, &["run", "t.asm"])?;
-    let mut shelf = MemoryShelf::new(alloc);
-    shelf.add(alloc, "t.asm", held.as_bytes())?;
-    shelf.fail(1)?;
-    let mut sink = MemorySink::new(alloc);
-    assert_eq!(rt;
-        asmeta(alloc, &words, &mut shelf, &mut sink),
-        Exit::ReadFault
-    );
-    assert_eq!(rt; sink.bytes(), b"".as_slice());
-    for (call, taken, printed) in [(1, 0, ""), (1, 3, "sta"), (2, 1, "state 0\n  x = undef\ne")] {
-        let mut sink = MemorySink::new(alloc);
-        sink.fail(call)?;
-        sink.taken(taken);
+    for (command, held, read, write, taken, exit, printed) in [
+        ("run", SMALL_MODEL, 1, 0, 0, Exit::ReadFault, ""),
+        ("run", SMALL_MODEL, 0, 1, 0, Exit::WriteFault, ""),
+        ("run", SMALL_MODEL, 0, 1, 3, Exit::WriteFault, "sta"),
+        (
+            "run",
+            SMALL_MODEL,
+            0,
+            2,
+            1,
+            Exit::WriteFault,
+            "state 0\n  x = undef\ne",
+        ),
+        ("format", SMALL_MODULE, 1, 0, 0, Exit::ReadFault, ""),
+        ("format", SMALL_MODULE, 0, 1, 4, Exit::WriteFault, "modu"),
+    ] {
+        let (end, sink) = failing(rt.alloc(), command, held, read, write, taken)?;
+        assert_eq!(rt; end, exit, "{command} {read} {write} {taken}");
         assert_eq!(rt;
-            asmeta(alloc, &words, &mut shelf, &mut sink),
-            Exit::WriteFault
+            sink.bytes(),
+            printed.as_bytes(),
+            "{command} {read} {write} {taken}"
         );
-        assert_eq!(rt; sink.bytes(), printed.as_bytes(), "{call}, {taken}");
     }
-    Ok(())
-}
-
-#[test]
-fn faults_end_a_format(rt: HostRuntime) -> Result<(), Fail> {
-    let alloc = rt.alloc();
-    let words = words(alloc, &["format", "t.asm"])?;
-    let mut shelf = MemoryShelf::new(alloc);
-    shelf.add(alloc, "t.asm", b"module t signature: definitions:")?;
-    shelf.fail(1)?;
-    let mut sink = MemorySink::new(alloc);
-    assert_eq!(rt;
-        asmeta(alloc, &words, &mut shelf, &mut sink),
-        Exit::ReadFault
-    );
-    assert_eq!(rt; sink.bytes(), b"".as_slice());
-    sink.fail(1)?;
-    sink.taken(4);
-    assert_eq!(rt;
-        asmeta(alloc, &words, &mut shelf, &mut sink),
-        Exit::WriteFault
-    );
-    assert_eq!(rt; sink.bytes(), b"modu".as_slice());
     Ok(())
 }
 

@@ -22,8 +22,13 @@ fn numbered(alloc: Global, count: u32) -> Result<Names, AllocError> {
     Ok(names)
 }
 
+fn size_of_range(low: i64, high: i64) -> Result<u32, DomainError> {
+    let domain = Domain::range(low, high)?;
+    Ok(domain.size())
+}
+
 #[test]
-fn ranges_and_numbers(rt: HostRuntime) -> Result<(), Fail> {
+fn ranges_have_sizes(rt: HostRuntime) {
     for (low, high, want) in [
         (0, 255, Ok(256)),
         (0, 256, Err(DomainError::TooLarge)),
@@ -33,41 +38,74 @@ fn ranges_and_numbers(rt: HostRuntime) -> Result<(), Fail> {
         (i64::MAX, i64::MIN, Err(DomainError::Empty)),
         (i64::MAX, i64::MAX, Ok(1)),
     ] {
-        let size = Domain::range(low, high).map(|domain| domain.size());
-        assert_eq!(rt; size, want, "from {low} to {high}");
+        assert_eq!(rt; size_of_range(low, high), want, "from {low} to {high}");
     }
+}
+
+#[test]
+fn a_range_has_its_numbers(rt: HostRuntime) -> Result<(), Fail> {
     let range = Domain::range(-1, 2)?;
     assert_eq!(rt; element(&range, 3), Some(Value::Int(2)));
     assert_eq!(rt; range.rank(&Value::Int(-1)), Some(0));
     assert_eq!(rt; range.rank(&Value::Int(3)), None);
     assert_eq!(rt; range.rank(&Value::Bool(true)), None);
     assert!(rt; range.names().is_none());
-    let mut numbers = Vec::new(rt.alloc());
-    for number in 0u32..256 {
+    Ok(())
+}
+
+// The numbers from 0 down, so many of them.
+fn numbers_down(alloc: Global, count: u32) -> Result<Vec<i64>, AllocError> {
+    let mut numbers = Vec::new(alloc);
+    for number in 0..count {
         numbers.push(-i64::from(number))?;
     }
-    let listed = Domain::listed(rt.alloc(), &numbers)?;
+    Ok(numbers)
+}
+
+fn domain_down(alloc: Global, count: u32) -> Result<Domain, DomainError> {
+    let numbers = numbers_down(alloc, count)?;
+    Domain::listed(alloc, &numbers)
+}
+
+#[test]
+fn a_list_has_its_numbers(rt: HostRuntime) -> Result<(), Fail> {
+    let listed = domain_down(rt.alloc(), 256)?;
     assert_eq!(rt; listed.size(), 256);
     assert_eq!(rt; element(&listed, 255), Some(Value::Int(-255)));
     assert_eq!(rt; listed.rank(&Value::Int(-7)), Some(7));
-    numbers.push(0)?;
-    let refused = Domain::listed(rt.alloc(), &numbers).map(|domain| domain.size());
-    assert_eq!(rt; refused, Err(DomainError::TooLarge));
-    let refused = Domain::listed(rt.alloc(), &[]).map(|domain| domain.size());
-    assert_eq!(rt; refused, Err(DomainError::Empty));
-    let refused = Domain::listed(rt.alloc(), &[3, 1, 2, 1, 3]).map(|domain| domain.size());
-    assert_eq!(rt; refused, Err(DomainError::Repeated(3)));
     Ok(())
 }
 
 #[test]
-fn truths_and_names(rt: HostRuntime) -> Result<(), Fail> {
+fn bad_lists_are_refused(rt: HostRuntime) {
+    let refused = domain_down(rt.alloc(), 257).map(|domain| domain.size());
+    assert_eq!(rt; refused, Err(DomainError::TooLarge));
+    for (numbers, want) in [
+        ([].as_slice(), DomainError::Empty),
+        ([3, 1, 2, 1, 3].as_slice(), DomainError::Repeated(3)),
+    ] {
+        let refused = Domain::listed(rt.alloc(), numbers).map(|domain| domain.size());
+        assert_eq!(rt; refused, Err(want));
+    }
+}
+
+#[test]
+fn truth_values_are_ranked(rt: HostRuntime) {
     let truths = Domain::boolean();
     assert_eq!(rt; truths.size(), 2);
     assert_eq!(rt; element(&truths, 1), Some(Value::Bool(true)));
     assert_eq!(rt; truths.rank(&Value::Bool(false)), Some(0));
     assert_eq!(rt; truths.rank(&Value::Undef), None);
-    let named = Domain::named(4, numbered(rt.alloc(), 256)?)?;
+}
+
+fn named(alloc: Global, count: u32) -> Result<Domain, DomainError> {
+    let names = numbered(alloc, count)?;
+    Domain::named(4, names)
+}
+
+#[test]
+fn names_are_ranked(rt: HostRuntime) -> Result<(), Fail> {
+    let named = named(rt.alloc(), 256)?;
     assert_eq!(rt; named.size(), 256);
     assert_eq!(rt; element(&named, 9), Some(Value::Elem(4, 9)));
     assert_eq!(rt; named.rank(&Value::Elem(4, 255)), Some(255));
@@ -75,15 +113,24 @@ fn truths_and_names(rt: HostRuntime) -> Result<(), Fail> {
     assert_eq!(rt; named.rank(&Value::Elem(5, 0)), None);
     let names = named.names().ok_or("names")?;
     assert_eq!(rt; names.item(2).ok_or("name")?.text(), "n2");
-    let refused = Domain::named(4, numbered(rt.alloc(), 257)?).map(|domain| domain.size());
-    assert_eq!(rt; refused, Err(DomainError::TooLarge));
-    let refused = Domain::named(4, numbered(rt.alloc(), 0)?).map(|domain| domain.size());
-    assert_eq!(rt; refused, Err(DomainError::Empty));
-    let mut names = numbered(rt.alloc(), 3)?;
-    names.push(Name::of(rt.alloc(), "n1")?)?;
-    let refused = Domain::named(4, names).map(|domain| domain.size());
-    assert_eq!(rt; refused, Err(DomainError::Repeated(3)));
     Ok(())
+}
+
+// A domain of three names and the second of them.
+fn repeated(alloc: Global) -> Result<Domain, DomainError> {
+    let mut names = numbered(alloc, 3)?;
+    names.push(Name::of(alloc, "n1")?)?;
+    Domain::named(4, names)
+}
+
+#[test]
+fn bad_names_are_refused(rt: HostRuntime) {
+    for (count, want) in [(257, DomainError::TooLarge), (0, DomainError::Empty)] {
+        let refused = named(rt.alloc(), count).map(|domain| domain.size());
+        assert_eq!(rt; refused, Err(want));
+    }
+    let refused = repeated(rt.alloc()).map(|domain| domain.size());
+    assert_eq!(rt; refused, Err(DomainError::Repeated(3)));
 }
 
 #[test]

@@ -88,9 +88,22 @@ fn first_state(alloc: Global, signature: &Signature) -> Result<Text, AllocError>
     Ok(text)
 }
 
+// The signature of these functions over the letters and the numbers.
+fn signature_of(alloc: Global) -> Result<Signature, AllocError> {
+    let letters = letters(alloc)?;
+    let numbers = numbers()?;
+    signature_over(alloc, letters, numbers)
+}
+
+fn value_text(alloc: Global, signature: &Signature, value: &Value) -> Result<Text, AllocError> {
+    let mut text = Text::new(alloc);
+    print_value(signature, value, &mut text)?;
+    Ok(text)
+}
+
 #[test]
-fn texts(rt: HostRuntime) -> Result<(), Fail> {
-    let signature = signature_over(rt.alloc(), letters(rt.alloc())?, numbers()?)?;
+fn values_have_texts(rt: HostRuntime) -> Result<(), Fail> {
+    let signature = signature_of(rt.alloc())?;
     for (value, want) in [
         (Value::Undef, "undef"),
         (Value::Bool(true), "true"),
@@ -99,21 +112,48 @@ fn texts(rt: HostRuntime) -> Result<(), Fail> {
         (Value::Elem(0, 1), "BB"),
         (Value::Elem(1, 0), ""),
     ] {
-        let mut text = Text::new(rt.alloc());
-        print_value(&signature, &value, &mut text)?;
+        let text = value_text(rt.alloc(), &signature, &value)?;
         assert_eq!(rt; text.slice(), want.as_bytes(), "{want}");
     }
+    Ok(())
+}
+
+fn location_text(alloc: Global, signature: &Signature, slot: u32) -> Result<Text, AllocError> {
+    let mut text = Text::new(alloc);
+    print_location(signature, slot, &mut text)?;
+    Ok(text)
+}
+
+#[test]
+fn locations_have_texts(rt: HostRuntime) -> Result<(), Fail> {
+    let signature = signature_of(rt.alloc())?;
     for (slot, want) in [(0, "f(AA,-2)"), (3, "f(BB,-1)"), (4, "m"), (5, "")] {
-        let mut text = Text::new(rt.alloc());
-        print_location(&signature, slot, &mut text)?;
+        let text = location_text(rt.alloc(), &signature, slot)?;
         assert_eq!(rt; text.slice(), want.as_bytes(), "{want}");
     }
+    Ok(())
+}
+
+#[test]
+fn a_state_has_a_text(rt: HostRuntime) -> Result<(), Fail> {
+    let signature = signature_of(rt.alloc())?;
+    let text = first_state(rt.alloc(), &signature)?;
     let state = "  f(AA,-2) = undef\n  f(AA,-1) = undef\n  f(BB,-2) = undef\n  f(BB,-1) = undef\n";
-    assert_eq!(rt;
-        first_state(rt.alloc(), &signature)?.slice(),
-        state.as_bytes()
-    );
-    let sources = sources_of(rt.alloc())?;
+    assert_eq!(rt; text.slice(), state.as_bytes());
+    Ok(())
+}
+
+// The line of a stop in a file of two lines.
+fn stop_text(alloc: Global, signature: &Signature, stop: &Stop) -> Result<Text, AllocError> {
+    let sources = sources_of(alloc)?;
+    let mut text = Text::new(alloc);
+    print_stop(signature, &sources, stop, &mut text)?;
+    Ok(text)
+}
+
+#[test]
+fn stops_have_texts(rt: HostRuntime) -> Result<(), Fail> {
+    let signature = signature_of(rt.alloc())?;
     for (stop, want) in [
         (
             Stop::Clash(0, Value::Elem(0, 0), Value::Elem(0, 1)),
@@ -132,8 +172,7 @@ fn texts(rt: HostRuntime) -> Result<(), Fail> {
             "stop: bad argument at :1:1\n",
         ),
     ] {
-        let mut text = Text::new(rt.alloc());
-        print_stop(&signature, &sources, &stop, &mut text)?;
+        let text = stop_text(rt.alloc(), &signature, &stop)?;
         assert_eq!(rt; text.slice(), want.as_bytes(), "{want}");
     }
     Ok(())

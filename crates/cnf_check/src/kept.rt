@@ -34,6 +34,14 @@ impl Refutation {
         &self.formula
     }
 
+    /// The lines of the derivation, in order.
+    pub fn derivation(&self) -> &Lines
+        ensures value { result.now ≡ self.now.lines }
+        ensures refutes { IsRefutation self.now.formula self.now.lines }
+    {
+        &self.lines
+    }
+
     /// The number of lines of the derivation.
     pub fn lines(&self) -> u64
         ensures count { result ≡ length self.now.lines }

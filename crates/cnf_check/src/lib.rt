@@ -11,5 +11,6 @@ mod tests;
 
 pub use bad::Bad;
 pub use checker::Checker;
+pub use cnf_base::{Hints, Line, Lines};
 pub use kept::{Effort, Refutation};
 pub use lookup::{is_clause_false, lone_literal};

@@ -28,7 +28,11 @@ fn refutes_the_square(rt: HostRuntime) -> Result<(), Fail> {
     };
     assert!(rt; checker.add(&Clause::new(alloc), &[4, 2, 3]).is_ok());
     assert!(rt; checker.finished());
-    assert_eq!(rt; checker.refutation().map(|r| r.lines()).ok(), Some(2));
+    let Ok(refutation) = checker.refutation() else {
+        return Err(Fail::from("no refutation"));
+    };
+    assert_eq!(rt; refutation.lines(), 2);
+    assert_eq!(rt; refutation.derivation().len(), 2);
     Ok(())
 }
 

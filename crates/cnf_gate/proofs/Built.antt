@@ -26,10 +26,11 @@ IsDetermined-empty = record {
 }
 
 pub IsBuilt-empty : IsBuilt [] [] [] 0 0
-IsBuilt-empty = record { determined = IsDetermined-empty; grouped = record { stated = λ p q. refl; filled = refl; positive = refl; free = free-empty }; posed = omega arith; sized = refl; few = omega arith; short = omega arith }
+IsBuilt-empty = record { determined = IsDetermined-empty; grouped = record { one = λ v h. refl; stated = λ p q. refl; filled = refl; positive = refl; free = free-empty }; posed = omega arith; sized = refl; few = omega arith; short = omega arith }
 
 pub AreGroups-more : (fixed more groups : List (List Lit)) → AreGroups fixed groups → AreGroups (fixed ++ more) groups
 AreGroups-more fixed more groups g = record {
+  one = λ v h. g.one v (all_split (clause_true v) fixed more h).0;
   stated = λ p q. g.stated p (all_split (λ c. is_none (lone p c) && not (is_all_false p c)) fixed more q).0;
   filled = g.filled;
   positive = g.positive;

@@ -11,16 +11,17 @@ use Rattle.cnf_gate.proofs.Built.{literals-append}
 use Rattle.cnf_gate.proofs.Chosen.{chosen_choice, chosen_along, chosen_agree}
 use Rattle.cnf_gate.proofs.Step.{agreed_below, agreed_trans}
 
-tabulate : (ℕ → Bool) → ℕ → List Bool
+-- the values of the variables below a number
+pub tabulate : (ℕ → Bool) → ℕ → List Bool
 tabulate v zero = []
 tabulate v (suc n) = v 0 ∷ tabulate (λ m. v (suc m)) n
 
-length-tabulate : (v : ℕ → Bool) (n : ℕ) → length (tabulate v n) ≡ n
+pub length-tabulate : (v : ℕ → Bool) (n : ℕ) → length (tabulate v n) ≡ n
 unfolding tabulate
 length-tabulate v zero = refl
 length-tabulate v (suc n) = omega (arith, length-tabulate (λ m. v (suc m)) n)
 
-value-tabulate : (v : ℕ → Bool) (n m : ℕ) → m < n → value_in (tabulate v n) m ≡ v m
+pub value-tabulate : (v : ℕ → Bool) (n m : ℕ) → m < n → value_in (tabulate v n) m ≡ v m
 unfolding tabulate
 value-tabulate v zero m h = absurd (omega arith)
 value-tabulate v (suc n) zero h = refl

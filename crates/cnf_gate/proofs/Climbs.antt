@@ -1,9 +1,9 @@
 -- A group in the making, as the loop that makes it has it.
-use Rattle.std.proofs.Common.{◌≡◌, ℕ, ◌+◌, ◌-◌, ◌*◌, ◌<◌, ◌≤◌, List, [], ◌∷◌, ◌++◌, length, arith, subst, sym, ◌∙◌, true, not, ◌&&◌, refl, ap, append_assoc}
+use Rattle.std.proofs.Common.{Bool, ◌≡◌, ℕ, ◌+◌, ◌-◌, ◌*◌, ◌<◌, ◌≤◌, List, [], ◌∷◌, ◌++◌, length, arith, subst, sym, ◌∙◌, true, not, ◌&&◌, refl, ap, append_assoc}
 use Rattle.std.specs.Prelude.{is_none}
 use Rattle.std.specs.List.{list_all}
 use Rattle.cnf_base.specs.declared.lit.Lit.{Lit}
-use Rattle.cnf_base.specs.Clauses.{negate, formula_true, clause_variables}
+use Rattle.cnf_base.specs.Clauses.{negate, clause_true, formula_true, clause_variables}
 use Rattle.cnf_base.specs.Known.{Partial}
 use Rattle.cnf_base.specs.Derivation.{lone, is_all_false}
 use Rattle.cnf_gate.specs.Gates.{literals}
@@ -85,7 +85,7 @@ Climbs-group now new first i size xs ys s c e k m n = record {
       let Q : ℕ → Type 0 = λ z. IsDetermined ((fixed ++ now) ++ xs ∷ []) (groups ++ xs ∷ []) (first + 2 * z - 1) in
       let R : List (List Lit) → Type 0 = λ z. AreGroups z (groups ++ xs ∷ []) in (
         subst P (whole fixed) (subst Q e (IsDetermined-group (fixed ++ now) groups xs s (first + 2 * i - 1) (c.ladder fixed groups d))),
-        subst R (whole fixed) (AreGroups-group fixed (fixed ++ now) groups xs a (front fixed) (filled xs (c.long ∙ e)) c.positive first d.grouped c.rising),
+        subst R (whole fixed) (AreGroups-group fixed (fixed ++ now) groups xs a (earlier fixed) (λ v h. group_means (fixed ++ now) groups xs s (first + 2 * i - 1) v (c.ladder fixed groups d) h) (front fixed) (filled xs (c.long ∙ e)) c.positive first d.grouped c.rising),
       );
   means = λ fixed groups d v h. group_means (fixed ++ now) groups xs s (first + 2 * i - 1) v (c.ladder fixed groups d) (ap (formula_true v) (whole fixed) ∙ h);
 }
@@ -95,6 +95,9 @@ Climbs-group now new first i size xs ys s c e k m n = record {
 
     whole : (fixed : List (List Lit)) → (fixed ++ now) ++ xs ∷ [] ≡ fixed ++ new
     whole fixed = append_assoc fixed now (xs ∷ []) ∙ ap (λ (z : List (List Lit)). fixed ++ z) (sym is)
+
+    earlier : (fixed : List (List Lit)) (v : ℕ → Bool) → formula_true v (fixed ++ now) ≡ true → formula_true v fixed ≡ true
+    earlier fixed v h = (all_split (clause_true v) fixed now h).0
 
     front : (fixed : List (List Lit)) (p : Partial) → is_quiet p (fixed ++ now) ≡ true → is_quiet p fixed ≡ true
     front fixed p q = (all_split (λ c. is_none (lone p c) && not (is_all_false p c)) fixed now q).0

@@ -5,3 +5,4 @@ pub mod Rungs
 pub mod Climbs
 pub mod Choice
 pub mod Chosen
+pub mod Growing

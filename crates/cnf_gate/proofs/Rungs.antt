@@ -366,10 +366,15 @@ group_means fixed groups xs s count v d h =
     let t = all_split (clause_true v) fixed (xs ∷ []) h in
     exactly v xs (d.one v t.0) (and_true (clause_true v xs) true t.1).0
 
-pub AreGroups-group : (old fixed groups : List (List Lit)) (xs : List Lit) → AreGroups old groups → ((p : Partial) → is_quiet p fixed ≡ true → is_quiet p old ≡ true)
+pub AreGroups-group : (old fixed groups : List (List Lit)) (xs : List Lit) → AreGroups old groups
+    → ((v : ℕ → Bool) → formula_true v fixed ≡ true → formula_true v old ≡ true) → ((v : ℕ → Bool) → formula_true v (fixed ++ xs ∷ []) ≡ true → exactly_one v xs ≡ true)
+    → ((p : Partial) → is_quiet p fixed ≡ true → is_quiet p old ≡ true)
     → is_filled xs ≡ true → list_all (λ l. l.positive) xs ≡ true → (first : ℕ) → variables groups ≤ first → AreRising first xs
     → AreGroups (fixed ++ xs ∷ []) (groups ++ xs ∷ [])
-AreGroups-group old fixed groups xs g front filled positive first low rising = record {
+AreGroups-group old fixed groups xs g earlier one front filled positive first low rising = record {
+  one = λ v h.
+      let t = all_split (clause_true v) fixed (xs ∷ []) h in
+      all_join (exactly_one v) groups (xs ∷ []) (g.one v (earlier v t.0)) (both_true (exactly_one v xs) true (one v h) refl);
   stated = λ p q.
       let t = all_split (is_calm p) fixed (xs ∷ []) q in
       let here = and_true (is_calm p xs) true t.1 in

@@ -79,8 +79,13 @@ pub record IsDetermined (fixed groups : List (List Lit)) (count : ℕ) : Type 0 
   -- unit propagation from one true literal of each group values every variable
   pub propagates : (p : Partial) → is_decided p groups ≡ true → is_quiet p fixed ≡ true → (n : ℕ) → n < count → is_some (p n) ≡ true
 
--- what holds of groups: a quiet trail makes some literal of each not false, each has a literal, all are positive, and every choice can be made
+-- in every assignment of the group and gate clauses exactly one literal of each group is true
+abbrev pub AlwaysChoose : List (List Lit) → List (List Lit) → Type 0
+AlwaysChoose fixed groups = (v : ℕ → Bool) → formula_true v fixed ≡ true → is_choice v groups ≡ true
+
+-- what holds of groups: exactly one literal of each is true, a quiet trail makes some literal of each not false, each has a literal, all are positive, and every choice can be made
 pub record AreGroups (fixed groups : List (List Lit)) : Type 0 where
+  pub one : AlwaysChoose fixed groups
   pub stated : (p : Partial) → is_quiet p fixed ≡ true → list_all (λ g. not (is_all_false p g)) groups ≡ true
   pub filled : list_all is_filled groups ≡ true
   pub positive : list_all (list_all (λ l. l.positive)) groups ≡ true
@@ -112,3 +117,10 @@ pub record AddsGroup (old new : Built) (g : List Lit) : Type 0 where
 -- how many literals a builder has in all clauses
 abbrev pub size_of : Built → ℕ
 size_of b = literals b.fixed + literals b.required
+
+-- a builder has grown: each assignment of its group and gate clauses is one of those before, its variables are the old ones and perhaps more, and these groups and required clauses came behind the old ones
+pub record Grows (old new : Built) (groups required : List (List Lit)) : Type 0 where
+  pub holds : (v : ℕ → Bool) → formula_true v new.fixed ≡ true → formula_true v old.fixed ≡ true
+  pub count : old.count ≤ new.count
+  pub groups_are : new.groups ≡ old.groups ++ groups
+  pub required_are : new.required ≡ old.required ++ required

@@ -1,7 +1,7 @@
 ghost use Rattle.std.specs.Prelude.{◌≡◌, ℕ, ◌+◌, ◌*◌, ◌<◌, ◌≤◌, ◌++◌, ◌∷◌, [], length, OnOk, OnErr, IfOk, Bool, true, not, vec_len, vec_capacity};
 ghost use Rattle.std.specs.List.{list_all, list_any};
-ghost use Rattle.cnf_base.specs.Clauses.{clause_variables, lit_true, formula_true};
-ghost use Rattle.cnf_gate.specs.Built.{AddsGate, AddsGroup, AreRising, size_of, exactly_one};
+ghost use Rattle.cnf_base.specs.Clauses.{clause_variables, lit_true, formula_true, variables};
+ghost use Rattle.cnf_gate.specs.Built.{AddsGate, AddsGroup, AreRising, Grows, size_of, exactly_one};
 ghost use Rattle.cnf_gate.specs.Circuit.{EachChoiceOnce};
 ghost use Rattle.cnf_gate.specs.Gates.{gate_clauses, flip_all};
 ghost use Rattle.cnf_gate.specs.Limits.{IsOverLimit, IsWithinLimits, OnTooLarge};
@@ -87,6 +87,7 @@ impl Builder {
         ensures fresh { IfOk result (λ g. AreRising self.old.count g) }
         ensures within { IfOk result (λ g. clause_variables g ≤ self.new.count) }
         ensures adds { IfOk result (λ g. AddsGroup self.old self.new g) }
+        ensures grows { IfOk result (λ g. Grows self.old self.new (g ∷ []) []) }
         ensures count { OnOk result (self.new.count + 1 ≡ self.old.count + 2 * size) }
         ensures size { OnOk result (size_of self.new + 9 ≡ size_of self.old + 10 * size) }
         ensures limits { OnOk result (IsWithinLimits self.new.count (size_of self.new)) }
@@ -117,6 +118,7 @@ impl Builder {
         ensures means { IfOk result (λ l. (v : ℕ → Bool) → formula_true v self.new.fixed ≡ true → lit_true v l ≡ list_all (lit_true v) lits.now) }
         ensures within { IfOk result (λ l. l.var < self.new.count) }
         ensures adds { OnOk result (AddsGate self.old self.new) }
+        ensures grows { Grows self.old self.new [] [] }
         ensures count { OnOk result (self.new.count ≡ self.old.count + 1) }
         ensures size { OnOk result (size_of self.new ≡ size_of self.old + 3 * length lits.now + 1) }
         ensures limits { OnOk result (IsWithinLimits self.new.count (size_of self.new)) }
@@ -132,6 +134,7 @@ impl Builder {
         ensures means { IfOk result (λ l. (v : ℕ → Bool) → formula_true v self.new.fixed ≡ true → lit_true v l ≡ list_any (lit_true v) lits.now) }
         ensures within { IfOk result (λ l. l.var < self.new.count) }
         ensures adds { OnOk result (AddsGate self.old self.new) }
+        ensures grows { Grows self.old self.new [] [] }
         ensures count { OnOk result (self.new.count ≡ self.old.count + 1) }
         ensures size { OnOk result (size_of self.new ≡ size_of self.old + 3 * length lits.now + 1) }
         ensures limits { OnOk result (IsWithinLimits self.new.count (size_of self.new)) }
@@ -154,6 +157,7 @@ impl Builder {
     pub fn require(&mut self, lit: Lit) -> Result<(), GateError>
         requires { lit.var < self.old.count }
         ensures ok { OnOk result (self.new ≡ record self.old { required = self.old.required ++ (lit ∷ []) ∷ [] }) }
+        ensures grows { OnOk result (Grows self.old self.new [] ((lit ∷ []) ∷ [])) }
         ensures limits { OnOk result (IsWithinLimits self.new.count (size_of self.new)) }
         ensures too_large { OnTooLarge result (IsOverLimit self.old.count (size_of self.old + 1)) }
         ensures err { OnErr result (self.new ≡ self.old) }
@@ -173,6 +177,7 @@ impl Builder {
         ensures fixed { result.fixed ≡ self.fixed }
         ensures required { result.required ≡ self.required }
         ensures groups { result.groups ≡ self.groups }
+        ensures count { variables result.fixed ≡ self.count }
     {
         let Builder {
             fixed: mut clauses,
@@ -195,6 +200,7 @@ impl Builder {
         ensures within { IfOk result (λ l. l.var < self.new.count) }
         ensures fixed { IfOk result (λ l. self.new.fixed ≡ self.old.fixed ++ gate_clauses l (flip_all flip lits.now)) }
         ensures rest { OnOk result ((self.new.required ≡ self.old.required) × (self.new.groups ≡ self.old.groups)) }
+        ensures grows { Grows self.old self.new [] [] }
         ensures count { OnOk result (self.new.count ≡ self.old.count + 1) }
         ensures size { OnOk result (size_of self.new ≡ size_of self.old + 3 * length lits.now + 1) }
         ensures limits { OnOk result (IsWithinLimits self.new.count (size_of self.new)) }

@@ -1,4 +1,5 @@
 ghost use Rattle.std.specs.Prelude.{◌≡◌, ◌++◌};
+ghost use Rattle.cnf_gate.specs.Built.{AlwaysChoose};
 ghost use Rattle.cnf_gate.specs.Circuit.{EachChoiceOnce, IsCircuit};
 
 use cnf_base::{Formula, Groups};
@@ -29,6 +30,7 @@ impl Circuit {
     #[tactic(auto, using(crate::proofs::Choice::choice_law))]
     pub fn formula(&self) -> &Formula
         ensures value { result.now ≡ self.now.fixed ++ self.now.required }
+        ensures one { AlwaysChoose self.now.fixed self.now.groups }
         ensures choices { EachChoiceOnce self.now.fixed self.now.groups }
         ensures circuit { IsCircuit self.now.fixed self.now.required self.now.groups }
     {
@@ -39,6 +41,7 @@ impl Circuit {
     #[tactic(auto, using(crate::proofs::Choice::choice_law))]
     pub fn groups(&self) -> &Groups
         ensures value { result.now ≡ self.now.groups }
+        ensures one { AlwaysChoose self.now.fixed self.now.groups }
         ensures choices { EachChoiceOnce self.now.fixed self.now.groups }
         ensures circuit { IsCircuit self.now.fixed self.now.required self.now.groups }
     {

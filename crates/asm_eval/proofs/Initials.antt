@@ -1,5 +1,5 @@
 -- The initial terms of a well-formed model are exact.
-use Rattle.std.proofs.Common.{◌≡◌, ℕ, suc, ◌<◌, Bool as Truth, true, false, ◌&&◌, if◌then◌else◌, List, [], ◌∷◌, map, length, nat_eq, slice_get, Option, Some, None, All, Contains, refl, sym, ap, ◌∙◌, subst, arith}
+use Rattle.std.proofs.Common.{◌≡◌, ℕ, suc, ◌<◌, Bool as Truth, true, false, ◌&&◌, if◌then◌else◌, List, [], ◌∷◌, map, length, Option, Some, None, All, Contains, refl, sym, ap, ◌∙◌, subst, arith}
 use Rattle.std.specs.List.{AllZip, list_any}
 use Rattle.std.proofs.Math.Logic.{∥∥₁_elim}
 use Rattle.std.specs.Ordering.{nat_cmp}
@@ -17,7 +17,7 @@ use Rattle.asm_node.specs.declared.model.Model.{Model}
 use Rattle.asm_node.specs.Model.{machine_of}
 use Rattle.asm_node.specs.Values.{whole, is_whole, is_element, are_arguments, same}
 use Rattle.asm_node.specs.Machine.{Machine, Definition, definition_of}
-use Rattle.asm_node.specs.Term.{World, parameters_have, calls_of, with_value}
+use Rattle.asm_node.specs.Term.{World, parameters_have, calls_of}
 use Rattle.asm_node.specs.Exact.{IsExactBody, exact_within, nothing}
 use Rattle.asm_node.specs.Filled.{IsFilled}
 use Rattle.asm_node.specs.Step.{alone}

@@ -1,5 +1,5 @@
 -- There is at most one proof that a term is exact, and that the initial terms are.
-use Rattle.std.proofs.Common.{◌≡◌, ℕ, zero, suc, List, [], ◌∷◌, true, false, nat_eq, slice_get, Option, Some, None}
+use Rattle.std.proofs.Common.{ℕ, zero, suc, List, [], ◌∷◌, true, false, nat_eq, slice_get, Option, Some, None}
 use Rattle.std.specs.Prelude.{⊤, MatchBool}
 use Rattle.std.proofs.Props.{props}
 use Rattle.std.specs.Coded.{Unit-prop}

@@ -1,5 +1,5 @@
 -- Models of dynamic functions alone, as the tests have.
-use Rattle.std.proofs.Common.{◌≡◌, ℕ, zero, suc, ◌<◌, ◌≤◌, Bool as Truth, true, false, List, [], ◌∷◌, map, length, slice_get, Option, Some, None, All, ℤ, pos, refl, sym, ap, ◌∙◌, subst, arith}
+use Rattle.std.proofs.Common.{◌≡◌, ℕ, zero, suc, ◌≤◌, true, List, [], ◌∷◌, map, length, slice_get, Some, None, All, ℤ, pos, refl, sym, subst, arith}
 use Rattle.std.specs.declared.alloc.Global.{Global}
 use Rattle.std.specs.declared.rc.Rc.{Rc}
 use Rattle.std.proofs.lemmas.Int.{ints}
@@ -21,7 +21,7 @@ use Rattle.asm_node.specs.declared.term.Term.{Term}
 use Rattle.asm_node.specs.Exact.{IsSmall}
 use Rattle.asm_node.specs.Machine.{Machine, Definition, has_kind}
 use Rattle.asm_node.specs.Parts.{defined_by, macro_by, machine_from}
-use Rattle.asm_node.specs.Ranges.{no_ranges, Range, From, IsRangeOf, IsNarrowRange, constant_numbers}
+use Rattle.asm_node.specs.Ranges.{no_ranges, Range, NoNumber, From, IsConstantRange, IsNarrowRange}
 use Rattle.asm_node.specs.RuleTree.{Rule, Skip, plain_rule}
 use Rattle.asm_node.specs.Tree.{Const, plain}
 use Rattle.asm_node.specs.declared.term_type.TermType.TheVariants.{Integer}
@@ -78,8 +78,8 @@ within_only : (x z : ℤ) → x ≡ z → IsWithin (only x) z
 within_only x z is = record { from = omega (arith, ints, is); to = omega (arith, ints, is) }
 
 -- a small number and `undef` have ranges
-pub constant_ranged : (v : Value) → IsConstant [] v Integer → IsSmall v → (r : Range) × (IsRangeOf (constant_numbers v) r × IsNarrowRange r)
-constant_ranged Undef typed small = (From (only (pos 0)), (record { holds_all = λ z is. within_only (pos 0) z is; least = refl; greatest = refl }, (omega arith, omega arith)))
+pub constant_ranged : (v : Value) → IsConstant [] v Integer → IsSmall v → (r : Range) × (IsConstantRange v r × IsNarrowRange r)
+constant_ranged Undef typed small = (NoNumber, (tt, tt))
 constant_ranged (Int x) typed small = (From (only x), (record { holds_all = λ z is. within_only x z is; least = refl; greatest = refl }, (small, small)))
 constant_ranged (Bool b) typed small = absurd (cc typed)
 constant_ranged (Elem d k) typed small = absurd (cc typed.0)

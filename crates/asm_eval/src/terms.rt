@@ -238,11 +238,11 @@ fn eval_call<S: Store>(
     requires exact { exact_within (world_in (machine_of world.now.model.now) (S.state world.now.store.now) world.now.input.now) left number values.now }
     ensures { Answers (λ v. v) result (calls_within (world_in (machine_of world.now.model.now) (S.state world.now.store.now) world.now.input.now) left number values.now) }
 {
-    if left == 0 {
-        return Ok(Value::Undef);
-    }
     match world.model.definition(number) {
         Some(definition) => {
+            if left == 0 {
+                return Ok(Value::Undef);
+            }
             let env = parameters(world.alloc, definition.variables.slice(), values)?;
             let value = eval_term(world, left - 1, &env, &definition.term)?;
             Ok(within(world.model.signature().domains(), function.codomain, value))

@@ -1,5 +1,5 @@
 -- The first element of a domain tells the type of all.
-use Rattle.std.proofs.Common.{◌≡◌, ℕ, List, [], ◌∷◌, slice_get, Option, Some, refl, subst}
+use Rattle.std.proofs.Common.{◌≡◌, [], ◌∷◌, slice_get, Some, refl, subst}
 use Rattle.asm_domain.specs.declared.value.Value.{Value}
 use Rattle.asm_domain.specs.declared.value.Value.TheVariants.{Undef, Bool, Int, Elem}
 use Rattle.asm_domain.specs.Universe.{Universe, Truths, Numbers, Named, elements}

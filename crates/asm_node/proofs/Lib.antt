@@ -1,27 +1,18 @@
-pub mod ChoosingPaths
-pub mod ChoosingWords
 pub mod Chosen
 pub mod Closed
 pub mod ClosedExact
 pub mod Closing
-pub mod Continuing
 pub mod Exactly
-pub mod Extending
-pub mod Filling
 mod Firsts
 pub mod Formed
 pub mod Growing
 pub mod Inputs
-pub mod Listing
-pub mod ModelRows
 pub mod Pools
 pub mod Ranging
 pub mod Revising
-pub mod Rows
 pub mod Sameness
 pub mod Shared
 pub mod Staying
-pub mod TermRows
 pub mod Trees
 pub mod UpdateSets
 pub mod Valued

@@ -19,9 +19,9 @@ use Rattle.asm_node.specs.Tree.{Tree, Const, Var, Within, Get, Oper, Cond, Let, 
 use Rattle.asm_node.specs.Values.{quantified, decided, is_truth, are_arguments, is_undef}
 use Rattle.asm_node.specs.Machine.{Machine, Definition, definition_of, same_location, slot_at, tuples_of, constant_of, element_named, same_name}
 use Rattle.asm_node.specs.Step.{may_have}
-use Rattle.asm_node.specs.Term.{World, Outcome, Gives, Needs, and_then, Reads, Calls, with_value, with_tuple, parameters_have, state_value, input_value, given, read, branch, guard_values, value_of, values_of, defined_value, value_of_function, calls_within}
+use Rattle.asm_node.specs.Term.{World, Outcome, Gives, Needs, and_then, Reads, Calls, with_value, with_tuple, parameters_have, state_value, input_value, given, read, branch, guard_values, value_of, values_of, defined_value, value_of_function, undefined_value, value_at_last, calls_within}
 use Rattle.asm_node.specs.Filled.{IsFilled}
-use Rattle.asm_node.specs.Ranges.{Range, NoNumber, IsRangeOf, IsIn, constant_numbers, numbers_in_either, Ranges, put_range, IsDomainRange, IsCodomainRange, HasRange, HaveRanges}
+use Rattle.asm_node.specs.Ranges.{Range, NoNumber, IsRangeOf, IsIn, IsConstantRange, numbers_in_either, Ranges, put_range, IsDomainRange, IsCodomainRange, HasRange, HaveRanges}
 use Rattle.asm_node.proofs.Ranging.{range_in, element_in, within_in, AreIn, result_in}
 
 -- ---- what holds of the answer of an evaluation that doesn't end with a need
@@ -150,7 +150,7 @@ module _ (w : World) (filled : IsFilled w) where
       pub value_in : (t : Tree) (rs : Ranges) (reads : Reads) (r : Range) → ReadsIn rs reads → HasRange signature rs t r → Answers (IsIn r) (value_of w calls reads t)
       value_in (Const v) rs reads r i h = constant v r h.0
         where
-          constant : (v : Value) (r : Range) → IsRangeOf (constant_numbers v) r → IsIn r v
+          constant : (v : Value) (r : Range) → IsConstantRange v r → IsIn r v
           constant (Int x) r h = range_in _ r (Int x) h (λ z e. (let q : x ≡ z = cc (e) in q))
           constant Undef r h = tt
           constant (Bool b) r h = tt
@@ -201,7 +201,12 @@ module _ (w : World) (filled : IsFilled w) where
   defined_in calls function r vs h None = constant_in r signature.domains function
   defined_in calls function r vs h (Some d) = any_answers (IsIn r) (value_of w calls (parameters_have d.parameters vs) d.body) _ (λ v. within_in signature function.codomain r v h)
 
+  last_in : (function : Function) (r : Range) (o : Option Definition) → IsIn r (undefined_value w function o)
+  last_in function r None = constant_in r signature.domains function
+  last_in function r (Some d) = tt
+
   pub calls_in : (n : ℕ) → CallsIn (calls_within w n)
-  calls_in zero f function r vs is h = tt
+  calls_in zero f function r vs is h =
+      subst (λ (o : Option Function). IsIn r (value_at_last w f o)) (sym is) (last_in function r (definition_of w.machine.definitions f))
   calls_in (suc n) f function r vs is h =
       subst (λ (o : Option Function). Answers (IsIn r) (value_of_function w (calls_within w n) f o vs)) (sym is) (defined_in (calls_within w n) function r vs h (definition_of w.machine.definitions f))

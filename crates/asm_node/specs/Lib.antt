@@ -1,8 +1,6 @@
 pub mod Choices
-pub mod Choosing
 pub mod Env
 pub mod Exact
-pub mod Extending
 pub mod Filled
 pub mod Machine
 pub mod Model

@@ -2,7 +2,7 @@
 use Rattle.std.specs.Prelude.{◌≡◌, ◌⊎◌, ℕ, ℤ, pos, ◌+ℤ◌, ◌-ℤ◌, ◌*ℤ◌, neg_ℤ, unsigned_abs, true, false, ⊤, nat_eq, if◌then◌else◌, List, [], ◌∷◌, Option, Some, None, slice_get}
 use Rattle.std.specs.Int.{int_min, int_max}
 use Rattle.asm_domain.specs.declared.value.Value.{Value}
-use Rattle.asm_domain.specs.declared.value.Value.TheVariants.{Undef, Bool, Int, Elem}
+use Rattle.asm_domain.specs.declared.value.Value.TheVariants.{Undef, Int}
 use Rattle.asm_domain.specs.declared.interval.Interval.{Interval}
 use Rattle.asm_domain.specs.Interval.{IsWithin, Spans}
 use Rattle.asm_domain.specs.Narrow.{IsNarrow}
@@ -84,12 +84,15 @@ operator_numbers o (r ∷ []) = of_one o r
 operator_numbers o (r ∷ s ∷ []) = of_two o r s
 operator_numbers o _ = no_numbers
 
--- `undef` counts as 0
+-- a number is that alone, and another constant is no number
 abbrev pub constant_numbers : Value → Numbers
 constant_numbers (Int x) z = x ≡ z
-constant_numbers Undef z = pos 0 ≡ z
-constant_numbers (Bool b) z = ⊥
-constant_numbers (Elem d k) z = ⊥
+constant_numbers _ z = ⊥
+
+-- the range of a constant; that of `undef` may be any
+abbrev pub IsConstantRange : Value → Range → Type 0
+IsConstantRange Undef r = ⊤
+IsConstantRange v r = IsRangeOf (constant_numbers v) r
 
 -- ---- ranges of variables
 
@@ -132,11 +135,12 @@ module _ (signature : Vocabulary) where
   -- ---- the range of a term, where no interval in it is refused
 
   abbrev mutual
-    -- a constant has its own number; a variable the range of what it stands for; `Within` and a read those of their domains
+    -- a constant has its own number, and `undef` any range; a variable has the range of what it stands for; `Within` and a
+    -- read have those of their domains
     -- an operator has what it may give of its arguments, a conditional what either branch may give
     -- a `let` has the range of its body, where the variable has that of its term; a quantifier has no number
     pub HasRange : Ranges → Tree → Range → Type 0
-    HasRange rs (Const v) r = IsRangeOf (constant_numbers v) r × IsNarrowRange r
+    HasRange rs (Const v) r = IsConstantRange v r × IsNarrowRange r
     HasRange rs (Var x) r = rs x ≡ r
     HasRange rs (Within d t) r = ((s : Range) × HasRange rs t s) × IsDomainRange d r
     HasRange rs (Get f ts) r = ((ss : List Range) × HaveRanges rs ts ss) × IsCodomainRange (slice_get signature.functions f) r

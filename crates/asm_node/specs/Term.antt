@@ -127,9 +127,18 @@ abbrev pub value_of_function : World → Calls → ℕ → Option Function → L
 value_of_function w calls f (Some function) vs = defined_value w calls function (definition_of w.machine.definitions f) vs
 value_of_function w calls f None vs = Gives Undef
 
+-- where no further definition may be entered, a function without one has its value, and another one has none
+abbrev pub undefined_value : World → Function → Option Definition → Value
+undefined_value w function (Some definition) = Undef
+undefined_value w function None = constant_of w.machine.signature.domains function
+
+abbrev pub value_at_last : World → ℕ → Option Function → Value
+value_at_last w f (Some function) = undefined_value w function (definition_of w.machine.definitions f)
+value_at_last w f None = Undef
+
 -- what the defined functions give where at most n definitions stand inside one another
 abbrev pub calls_within : World → ℕ → Calls
-calls_within w zero f vs = Gives Undef
+calls_within w zero f vs = Gives (value_at_last w f (slice_get w.machine.signature.functions f))
 calls_within w (suc n) f vs = value_of_function w (calls_within w n) f (slice_get w.machine.signature.functions f) vs
 
 -- what the defined functions give: in a model no chain of definitions is longer than 32

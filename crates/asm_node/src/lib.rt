@@ -2,17 +2,14 @@
 #![tactic(auto)]
 
 mod choices;
-mod choosing_law;
 mod close_term;
 mod definition;
 mod env;
-mod extending_law;
 mod input;
 mod model;
 mod operator;
 mod path;
 mod pool;
-mod range;
 mod rule;
 mod stop;
 mod term;
@@ -22,17 +19,14 @@ mod tests;
 mod words;
 
 pub use choices::Choices;
-pub use choosing_law::words_are_choices;
 pub use close_term::close;
 pub use definition::{Definition, Definitions, InitialTerms, MacroRule, Rules, Terms};
 pub use env::{Binding, Env};
-pub use extending_law::steps_extend;
 pub use input::{Input, Inputs};
 pub use model::Model;
 pub use operator::{Op, Quantifier};
 pub use path::{Path, Step, Values};
 pub use pool::Pool;
-pub use range::{definitions_are_ranged, ranges_hold, worlds_are_filled};
 pub use rule::{Rule, RuleKind};
 pub use stop::Stop;
 pub use term::{Binder, Term, TermKind};

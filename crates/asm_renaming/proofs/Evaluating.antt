@@ -14,7 +14,7 @@ use Rattle.asm_node.specs.Tree as tree
 use Rattle.asm_node.specs.Tree.{Tree}
 use Rattle.asm_node.specs.Values.{result_of, quantified, within, are_arguments}
 use Rattle.asm_node.specs.Machine.{Definition, State, Input, slot_at, tuples_of}
-use Rattle.asm_node.specs.Term.{World, Outcome, Gives, and_then, Reads, Calls, unbound, with_value, with_tuple, parameters_have, state_value, input_value, read, branch, guard_values, value_of, values_of, defined_value, value_of_function, calls_within, calls_of, Places, nowhere, put, put_tuple, close, reads_at, val, vals}
+use Rattle.asm_node.specs.Term.{World, Outcome, Gives, and_then, Reads, Calls, unbound, with_value, with_tuple, parameters_have, state_value, input_value, read, branch, guard_values, value_of, values_of, defined_value, value_of_function, undefined_value, value_at_last, calls_within, calls_of, Places, nowhere, put, put_tuple, close, reads_at, val, vals}
 use Rattle.asm_node.specs.Taking.{stand_for}
 use Rattle.asm_node.proofs.Closed.{IsClosed, closed}
 use Rattle.asm_node.proofs.Closing.{value_of-close, closed-value}
@@ -168,8 +168,21 @@ module _ (v : Vocabulary) where
             ∙ (defined-same function found vs
             ∙ sym (ap (λ (o : Option Definition). defined_value (w' s) calls' function o vs) (find-map (definition_of m.second v units) (λ d. nat_eq d.function f) (definitions units))))
 
+      undefined-same : (function : Function) (o : Option (Of RawFunction))
+          → undefined_value (w s) function (option_map (definition_of m.first v units) o) ≡ undefined_value (w' s) function (option_map (definition_of m.second v units) o)
+      undefined-same function None = refl
+      undefined-same function (Some o) = refl
+
+      last-same : (f : ℕ) (function : Option Function) → value_at_last (w s) f function ≡ value_at_last (w' s) f function
+      last-same f None = refl
+      last-same f (Some function) =
+          let found : Option (Of RawFunction) = find (λ o. nat_eq (definition_of m.first v units o).function f) (definitions units) in
+          ap (undefined_value (w s) function) (find-map (definition_of m.first v units) (λ d. nat_eq d.function f) (definitions units))
+          ∙ (undefined-same function found
+          ∙ sym (ap (undefined_value (w' s) function) (find-map (definition_of m.second v units) (λ d. nat_eq d.function f) (definitions units))))
+
       pub calls-same : (n f : ℕ) (vs : List Value) → calls_within (w s) n f vs ≡ calls_within (w' s) n f vs
-      calls-same zero f vs = refl
+      calls-same zero f vs = ap Gives (last-same f (slice_get v.functions f))
       calls-same (suc n) f vs = function-same (calls_within (w s) n) (calls_within (w' s) n) (calls-same n) f (slice_get v.functions f) vs
 
     -- ---- terms with places

@@ -60,9 +60,6 @@ module _ (v : Vocabulary) (n : ℕ) where
 one_number : (z : ℤ) → AreBounds (constant_numbers (Int z)) z z
 one_number z = record { least = refl; greatest = refl; between = λ y e. subst (λ (w : ℤ). (z ≤ℤ w) × (w ≤ℤ z)) e (≤ℤ_refl z, ≤ℤ_refl z) }
 
-no_number : AreBounds (constant_numbers Undef) (pos 0) (pos 0)
-no_number = record { least = refl; greatest = refl; between = λ y e. subst (λ (w : ℤ). (pos 0 ≤ℤ w) × (w ≤ℤ pos 0)) e (≤ℤ_refl (pos 0), ≤ℤ_refl (pos 0)) }
-
 -- ---- terms
 
 module _ (number : Name → ℕ) (numbering : IsNumbering number) (v : Vocabulary) (ready : IsReady v) (n : ℕ) where
@@ -190,8 +187,8 @@ module _ (number : Name → ℕ) (numbering : IsNumbering number) (v : Vocabular
       (r.0, r.1 ∙ sym (unless_same (Between (pos x) (pos x)) fine), (r.2, r.3))
   form_ranged at first (RawTermKind-F.Truth b) h types scope rs agrees e d = (NoNumber, refl, (λ z is. is, tt))
   form_ranged at first RawTermKind-F.Undef h types scope rs agrees e d =
-      let r = bounded (constant_numbers Undef) (pos 0) (pos 0) no_number refl in
-      (r.0, r.1, (r.2, r.3))
+      let r = bounded (constant_numbers (Int (pos 0))) (pos 0) (pos 0) (one_number (pos 0)) refl in
+      (r.0, r.1, (tt, r.3))
   form_ranged at first (RawTermKind-F.Variable x) h types scope rs agrees e d = (rs (number x), agrees x, refl)
   form_ranged at first (RawTermKind-F.Element x) h types scope rs agrees e d = element_ranged at x rs (typing.element_in v.domains x) e
   form_ranged at first (RawTermKind-F.Call g ts) h types scope rs agrees e d = call_ranged at g ts h types scope rs agrees (function_named v g) refl e d

@@ -3,7 +3,7 @@ ghost use Rattle.std.specs.Prelude.{◌≡◌, ℕ, List};
 ghost use Rattle.asm_node.specs.RuleTree.{Rule};
 ghost use Rattle.asm_node.specs.Machine.{Machine, State, Input};
 ghost use Rattle.asm_node.specs.Step.{next, Steps};
-ghost use Rattle.asm_node.specs.Extending.{Extends, StaysStep};
+ghost use Rattle.asm_laws.specs.Extending.{Extends, StaysStep};
 
 /// Under an input that extends another, a step that needs nothing under the other is the same, and so is a step under some
 /// choices. So a step under any input is one under each full input that extends it.

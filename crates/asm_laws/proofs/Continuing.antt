@@ -19,9 +19,9 @@ use Rattle.asm_sign.specs.Vocabulary.{function_at}
 use Rattle.asm_node.specs.UpdateSet.{UpdateSet, consistent, fire, clash}
 use Rattle.asm_node.specs.Taking.{Attempt, Yields, Faults, Pick, Bodies, Path, and_then, evaluated, valued, updated, update, each, candidates, chosen, taken, taken_all, body_taken, bodies_within, outcome, stand_for, by_words, by_paths}
 use Rattle.asm_node.specs.Step.{after, ended, next, Steps, shared_value, with_shared}
-use Rattle.asm_node.specs.Extending.{Extends, StaysStep}
+use Rattle.asm_laws.specs.Extending.{Extends, StaysStep}
 use Rattle.asm_node.proofs.Revising.{get-revised, same_state}
-use Rattle.asm_node.proofs.Extending.{Keeps, GivesMore, WithInput, val-kept, vals-kept}
+use Rattle.asm_laws.proofs.Extending.{Keeps, GivesMore, WithInput, val-kept, vals-kept}
 
 module _ {S : Type 0} where
   -- a set, or a fault that is no need, is the other one's too

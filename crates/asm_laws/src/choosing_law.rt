@@ -4,7 +4,7 @@ ghost use Rattle.asm_node.specs.RuleTree.{Rule};
 ghost use Rattle.asm_node.specs.Term.{World};
 ghost use Rattle.asm_node.specs.UpdateSet.{UpdateSet};
 ghost use Rattle.asm_node.specs.Taking.{Yields, outcome, by_words};
-ghost use Rattle.asm_node.specs.Choosing.{TuplesDiffer, GivesByWords, GivesByPaths};
+ghost use Rattle.asm_laws.specs.Choosing.{TuplesDiffer, GivesByWords, GivesByPaths};
 
 /// A rule gives a set under some choice words exactly where it gives it under some choices at paths, if no domain has an
 /// element twice.

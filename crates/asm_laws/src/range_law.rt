@@ -13,7 +13,7 @@ ghost use Rattle.asm_node.specs.Ranges.{Range, IsIn, no_ranges, HasRange, IsRang
 /// In a world whose locations have values of their codomains, over a machine in whose definitions no interval is refused,
 /// a closed term has no number for its value, or one of its range; and where no interval in the term is refused, no number
 /// that its evaluation meets is over 2^62 in absolute value.
-#[tactic(auto, using(crate::proofs::Exactly::value_is_in, crate::proofs::Exactly::is_exact))]
+#[tactic(auto, using(asm_node::proofs::Exactly::value_is_in, asm_node::proofs::Exactly::is_exact))]
 pub fn ranges_hold()
     ensures value { (w : World) → IsFilled w → AreDefinitionsRanged w.machine → (t : Tree) (r : Range) → HasRange w.machine.signature no_ranges t r → (v : Value) → value_of w (calls_of w) unbound t ≡ Gives v → IsIn r v }
     ensures exact { (w : World) → IsFilled w → AreDefinitionsRanged w.machine → (t : Tree) → IsRanged w.machine.signature no_ranges t → IsExact w t }
@@ -26,7 +26,7 @@ pub fn worlds_are_filled()
 {}
 
 /// In no definition of a well-formed model an interval is refused.
-#[tactic(auto, using(crate::proofs::Formed::definitions_ranged))]
+#[tactic(auto, using(asm_node::proofs::Formed::definitions_ranged))]
 pub fn definitions_are_ranged()
     ensures { (m : Machine) → IsWellFormed m → AreDefinitionsRanged m }
 {}

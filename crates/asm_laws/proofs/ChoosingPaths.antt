@@ -24,8 +24,8 @@ use Rattle.asm_node.specs.Term.{World, Outcome, Gives, Needs, branch, val, vals,
 use Rattle.asm_node.specs.UpdateSet.{UpdateSet, consistent, override, one}
 use Rattle.asm_node.specs.Taking.{Attempt, Yields, Faults, Bodies, Path, and_then, evaluated, valued, updated, update, each, candidates, chosen, taken, taken_all, body_taken, bodies_within, outcome, stand_for, fired, by_words, by_paths, candidate, Choosing}
 use Rattle.asm_node.proofs.Sameness.{same_all_is, same_all_itself}
-use Rattle.asm_node.specs.Choosing.{TuplesDiffer, GivesByPaths}
-use Rattle.asm_node.proofs.ChoosingWords.{at_place}
+use Rattle.asm_laws.specs.Choosing.{TuplesDiffer, GivesByPaths}
+use Rattle.asm_laws.proofs.ChoosingWords.{at_place}
 
 -- some ways on from a path
 abbrev pub Area : Type 0

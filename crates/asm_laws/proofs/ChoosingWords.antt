@@ -17,7 +17,7 @@ use Rattle.asm_node.specs.Values.{same_all, is_undef, is_element}
 use Rattle.asm_node.specs.Term.{World, Outcome, Gives, Needs, branch, val, vals, Places, put, put_tuple, nowhere}
 use Rattle.asm_node.specs.UpdateSet.{UpdateSet, consistent, override, one}
 use Rattle.asm_node.specs.Taking.{Attempt, Yields, Faults, Bodies, Path, and_then, evaluated, valued, updated, update, each, candidates, chosen, taken, taken_all, body_taken, bodies_within, outcome, stand_for, fired, by_words, by_paths, candidate, Choosing}
-use Rattle.asm_node.specs.Choosing.{GivesByWords, GivesByPaths}
+use Rattle.asm_laws.specs.Choosing.{GivesByWords, GivesByPaths}
 use Rattle.asm_node.proofs.Sameness.{same_all_is}
 
 -- the answer is also given where some words stand first, which are then taken

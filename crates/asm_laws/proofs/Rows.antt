@@ -23,7 +23,7 @@ use Rattle.std.specs.Ordering.{nat_cmp}
 use Rattle.std.specs.Cmp.{nat_cmp_total}
 use Rattle.std.specs.FinMap as finite
 use Rattle.asm_node.proofs.UpdateSets.{of_list}
-use Rattle.asm_node.proofs.Listing.{held, world_of, next-is, par-listed, seq-alone, seq-listed, clashes, goes_on}
+use Rattle.asm_laws.proofs.Listing.{held, world_of, next-is, par-listed, seq-alone, seq-listed, clashes, goes_on}
 
 -- the numbers 1 to 3, and two controlled functions
 abbrev numbers : DeclaredDomain

@@ -1,0 +1,11 @@
+pub mod ChoosingPaths
+pub mod ChoosingWords
+pub mod Continuing
+pub mod Extending
+pub mod Filling
+pub mod Levels
+pub mod Listing
+pub mod ModelRows
+pub mod Rows
+pub mod RuleLevels
+pub mod TermRows

@@ -1,0 +1,12 @@
+//! Laws of what terms and rules mean.
+#![tactic(auto)]
+
+mod choosing_law;
+mod extending_law;
+mod level_law;
+mod range_law;
+
+pub use choosing_law::words_are_choices;
+pub use extending_law::steps_extend;
+pub use level_law::levels_suffice;
+pub use range_law::{definitions_are_ranged, ranges_hold, worlds_are_filled};

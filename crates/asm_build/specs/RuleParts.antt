@@ -1,6 +1,6 @@
 -- Rules of several parts, from the trees of the parts.
 use Rattle.std.specs.Prelude.{ℕ, List, [], ◌∷◌}
-use Rattle.asm_io.specs.declared.sources.Place.{Place}
+use Rattle.asm_source.specs.declared.sources.Place.{Place}
 use Rattle.asm_node.specs.Tree.{Tree}
 use Rattle.asm_node.specs.RuleTree.{Rule, Skip, Seq, If, Let}
 use Rattle.asm_build.specs.Forms.{test}

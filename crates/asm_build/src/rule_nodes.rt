@@ -19,9 +19,9 @@ use crate::nodes::{
     Bounds, binders_of, bounds_of, function_number, node_at, number_at, operation, term, terms,
 };
 use asm_faults::Known;
-use asm_io::Place;
 use asm_list::{Listed, Name};
 use asm_node::{Op, Rule, RuleKind, Term, Terms};
+use asm_source::Place;
 use asm_tree::rule::{RawRule, RawRuleCase, RawRuleKind};
 use asm_tree::term::RawTerm;
 use name_table::Table;

@@ -3,7 +3,7 @@
 ghost use Rattle.std.specs.Prelude.{◌≡◌, ◌+◌, ◌++◌, OnOk, IfOk};
 ghost use Rattle.asm_canonical.specs.Pieces as pieces;
 
-use asm_io::{Text, append_str};
+use asm_source::{Text, append_str};
 use std::alloc::AllocError;
 
 /// Appends the mark where it is needed.

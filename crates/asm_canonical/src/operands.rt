@@ -6,7 +6,7 @@ ghost use Rattle.asm_canonical.specs.Pieces as pieces;
 
 use crate::layout::mark;
 use crate::operator::{level, sign};
-use asm_io::{Text, append_str};
+use asm_source::{Text, append_str};
 use asm_tree::{Op, UnaryOp};
 use std::alloc::AllocError;
 

@@ -8,7 +8,7 @@ ghost use Rattle.asm_canonical.specs.Rules.{rule_doc, kind_doc, inner};
 
 use crate::layout::{deeper, line};
 use crate::term::{binders, binds, call, phrase, terms};
-use asm_io::{Text, append_str};
+use asm_source::{Text, append_str};
 use asm_tree::rule::{RawRule, RawRuleCase, RawRuleKind};
 use asm_tree::term::{RawBinder, RawTerm};
 use std::alloc::AllocError;

@@ -8,7 +8,7 @@ ghost use Rattle.asm_canonical.specs.Terms.{term_doc, kind_doc, case_doc, bind_d
 use crate::layout::separator;
 use crate::operands::{before_both, before_one, behind_both, behind_one, middle, operand_level};
 use crate::operator::{left_level, quantifier, right_level, truth};
-use asm_io::{Text, append_number, append_str};
+use asm_source::{Text, append_number, append_str};
 use asm_tree::term::{RawBind, RawBinder, RawCase, RawTerm, RawTermKind};
 use asm_tree::{Quantifier, UnaryOp};
 use std::alloc::AllocError;

@@ -1,6 +1,6 @@
 use crate::print_unit;
-use asm_io::Text;
 use asm_list::{Boxed, Listed, Name};
+use asm_source::Text;
 use asm_tree::rule::{RawRule, RawRuleKind};
 use asm_tree::term::{RawName, RawTerm, RawTermKind};
 use asm_tree::unit::{

@@ -9,7 +9,7 @@ ghost use Rattle.asm_canonical.specs.Units as units;
 use crate::layout::{joint, line, separator};
 use crate::rule::rule;
 use crate::term::{binders, phrase};
-use asm_io::{Text, append_integer, append_str};
+use asm_source::{Text, append_integer, append_str};
 use asm_tree::rule::RawRule;
 use asm_tree::term::{RawBinder, RawName};
 use asm_tree::unit::{

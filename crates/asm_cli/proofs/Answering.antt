@@ -2,7 +2,7 @@
 use Rattle.std.proofs.Common.{◌≡◌, ◌↔◌, ℕ, List, [], ◌∷◌, ◌++◌, length, Option, Some, None, Result, Ok, Err, refl, sym, ap, ◌∙◌, subst, inl, inr, arith}
 use Rattle.std.specs.Prelude.{IsNone, is_some, codes}
 use Rattle.asm_io.specs.Outside.{Files}
-use Rattle.asm_io.specs.declared.sources.Source.{Source}
+use Rattle.asm_source.specs.declared.sources.Source.{Source}
 use Rattle.asm_tree.specs.declared.script.RawInputs.{RawInputs}
 use Rattle.asm_tree.specs.declared.script.RawScenario.{RawScenario}
 use Rattle.asm_tree.specs.declared.term.RawName.{RawName}

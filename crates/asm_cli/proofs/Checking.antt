@@ -4,8 +4,8 @@ use Rattle.std.specs.Option.{option_map}
 use Rattle.std.specs.List.{enumerate_from}
 use Rattle.std.proofs.lemmas.List.{length-map}
 use Rattle.asm_io.proofs.Printing.{part_of_none}
-use Rattle.asm_io.specs.declared.sources.Place.{Place}
-use Rattle.asm_io.specs.declared.sources.Source.{Source}
+use Rattle.asm_source.specs.declared.sources.Place.{Place}
+use Rattle.asm_source.specs.declared.sources.Source.{Source}
 use Rattle.asm_sign.specs.Vocabulary.{locations}
 use Rattle.asm_node.specs.Machine.{Machine}
 use Rattle.asm_tree.specs.declared.unit.LoadedUnit.{LoadedUnit}

@@ -2,8 +2,8 @@
 use Rattle.std.proofs.Common.{◌≡◌, ◌≢◌, ◌≤◌, ◌∙◌, ℕ, List, [], Option, Some, None, Result, Ok, Err, refl, sym, subst, inl, inr, arith}
 use Rattle.std.specs.Option.{option_map}
 use Rattle.asm_io.specs.Outside.{Files, AddsPart, Rose}
-use Rattle.asm_io.specs.declared.sources.Source.{Source}
-use Rattle.asm_io.specs.declared.sources.Place.{Place}
+use Rattle.asm_source.specs.declared.sources.Source.{Source}
+use Rattle.asm_source.specs.declared.sources.Place.{Place}
 use Rattle.asm_io.proofs.Printing.{part_of_none, rose_after}
 use Rattle.asm_node.specs.Machine.{Machine, Input}
 use Rattle.asm_tree.specs.declared.script.RawInputs.{RawInputs}

@@ -1,8 +1,8 @@
 -- What a command line prints, and with which code.
 use Rattle.std.specs.Prelude.{◌≡◌, ◌⊎◌, ℕ, List, [], ◌++◌, length, Option, Some, None, Result, Ok, Err, unwrap_or, codes}
 use Rattle.asm_io.specs.Outside.{Files, Adds, AddsPart}
-use Rattle.asm_io.specs.declared.sources.Place.{Place}
-use Rattle.asm_io.specs.declared.sources.Source.{Source}
+use Rattle.asm_source.specs.declared.sources.Place.{Place}
+use Rattle.asm_source.specs.declared.sources.Source.{Source}
 use Rattle.asm_lex.specs.declared.token.Token.{Token}
 use Rattle.asm_tree.specs.declared.script.RawInputs.{RawInputs}
 use Rattle.asm_tree.specs.declared.script.RawScenario.{RawScenario}

@@ -1,9 +1,9 @@
 -- What is printed of a fault of a file, of a model or of a scenario.
 use Rattle.std.specs.Prelude.{ℕ, List, [], ◌++◌, drop, take_while, slice_get, codes}
 use Rattle.std.specs.Option.{option_map, unwrap_or}
-use Rattle.asm_io.specs.declared.sources.Source.{Source}
-use Rattle.asm_io.specs.declared.sources.Place.{Place}
-use Rattle.asm_io.specs.Spots.{text_of}
+use Rattle.asm_source.specs.declared.sources.Source.{Source}
+use Rattle.asm_source.specs.declared.sources.Place.{Place}
+use Rattle.asm_source.specs.Spots.{text_of}
 use Rattle.asm_lex.specs.Cut.{in_word}
 use Rattle.asm_lex.specs.declared.error.LexError.{LexError}
 use Rattle.asm_lex.specs.declared.error.LexError.TheVariants as lex

@@ -1,7 +1,7 @@
 -- What the play of a scenario prints, and with which code.
 use Rattle.std.specs.Prelude.{◌≡◌, ◌⊎◌, ℕ, List, [], map, Option, Some, None, Result, Ok, Err}
 use Rattle.asm_io.specs.Outside.{Files}
-use Rattle.asm_io.specs.declared.sources.Source.{Source}
+use Rattle.asm_source.specs.declared.sources.Source.{Source}
 use Rattle.asm_domain.specs.declared.value.Value.{Value}
 use Rattle.asm_tree.specs.declared.script.RawCommand.{RawCommand}
 use Rattle.asm_tree.specs.declared.script.RawCommand.TheVariants as command

@@ -1,7 +1,7 @@
 -- What is printed, as relations between a text and a code, and files that are read whole.
 use Rattle.std.specs.Prelude.{◌≡◌, ℕ, List, [], ◌∷◌, ◌++◌, Result, Ok, Err}
-use Rattle.asm_io.specs.Spots.{text_of}
-use Rattle.asm_io.specs.declared.sources.Source.{Source}
+use Rattle.asm_source.specs.Spots.{text_of}
+use Rattle.asm_source.specs.declared.sources.Source.{Source}
 use Rattle.asm_lex.specs.declared.token.Token.{Token}
 use Rattle.asm_tree.specs.declared.error.ParseError.{ParseError}
 use Rattle.asm_unit.specs.declared.error.LoadError.{LoadError}

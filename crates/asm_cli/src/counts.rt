@@ -4,8 +4,8 @@ ghost use Rattle.asm_node.specs.Model.{machine_of};
 ghost use Rattle.asm_resolve.specs.Resolved.{IsModelOf};
 ghost use Rattle.asm_cli.specs.Counts.{counts_of, counted, counts_text};
 
-use asm_io::{Text, append_number, append_str};
 use asm_node::Model;
+use asm_source::{Text, append_number, append_str};
 use asm_tree::unit::Units;
 use std::alloc::{AllocError, Global};
 

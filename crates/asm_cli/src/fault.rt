@@ -1,6 +1,6 @@
 //! The line of a file's fault.
 ghost use Rattle.std.specs.Prelude.{◌≡◌, ◌≤◌, ◌++◌, ◌∷◌, [], All, length, take_while, codes, IfOk, OnOk};
-ghost use Rattle.asm_io.specs.Spots.{text_of};
+ghost use Rattle.asm_source.specs.Spots.{text_of};
 ghost use Rattle.asm_lex.specs.Cut.{in_word};
 ghost use Rattle.asm_cli.specs.Fault as spec;
 ghost use Rattle.asm_cli.specs.Reply.{Refuses, Replies};

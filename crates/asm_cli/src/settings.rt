@@ -1,7 +1,7 @@
 //! The settings of an input file.
 ghost use Rattle.std.specs.Prelude.{◌≡◌, ◌≤◌, ◌<◌, ◌^◌, IfErr, Ok, length};
 ghost use Rattle.asm_io.specs.Outside.{Told, Rose};
-ghost use Rattle.asm_io.specs.Spots.{text_of};
+ghost use Rattle.asm_source.specs.Spots.{text_of};
 ghost use Rattle.asm_lex.specs.Cut.{cut};
 ghost use Rattle.asm_unit.specs.Loading.{tokens_in, Follows, OnRead, AddsFiles, Judges};
 ghost use Rattle.asm_unit.specs.Spelled as unit_spec;

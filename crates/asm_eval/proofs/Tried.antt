@@ -8,7 +8,7 @@ use Rattle.asm_domain.specs.declared.value.Value.{Value}
 use Rattle.asm_domain.specs.declared.value.Value.TheVariants.{Undef, Bool, Int, Elem}
 use Rattle.asm_domain.specs.Interval.{IsWithin}
 use Rattle.asm_domain.specs.Universe.{Numbers, AreDistinct, numbers_between}
-use Rattle.asm_io.specs.declared.sources.Place.{Place}
+use Rattle.asm_source.specs.declared.sources.Place.{Place}
 use Rattle.asm_sign.specs.declared.function.DeclaredDomain.{DeclaredDomain}
 use Rattle.asm_sign.specs.declared.function.FunKind.TheVariants.{Controlled}
 use Rattle.asm_sign.specs.declared.function.Function.{Function}

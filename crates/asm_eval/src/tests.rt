@@ -10,13 +10,13 @@ ghost use Rattle.asm_node.specs.Types.{IsConstant};
 
 use crate::{EvalError, InitError, eval, initial};
 use asm_domain::{Domain, Value};
-use asm_io::Place;
 use asm_list::{Listed, Name};
 use asm_node::{
     Binder, Definition, Env, InitialTerms, Input, Model, Pool, Quantifier, Rule, RuleKind, Term,
     TermKind,
 };
 use asm_sign::{DeclaredDomain, Domains, FunKind, Function, Functions, Signature};
+use asm_source::Place;
 use asm_state::{MapStore, Store};
 use std::alloc::{AllocError, Global};
 use std::rc::Rc;

@@ -1,7 +1,7 @@
 -- The model of checked files: numbers in place of names, and trees in which choices of writing are gone.
 use Rattle.std.specs.Prelude.{◌≡◌, ℕ, pos, List, [], ◌∷◌, map, slice_get}
 use Rattle.std.specs.Option.{option_map, unwrap_or}
-use Rattle.asm_io.specs.declared.sources.Place.{Place}
+use Rattle.asm_source.specs.declared.sources.Place.{Place}
 use Rattle.asm_domain.specs.declared.value.Value.TheVariants as value
 use Rattle.asm_sign.specs.Vocabulary.{Vocabulary}
 use Rattle.asm_node.specs.declared.operator.Op as node_op

@@ -7,7 +7,7 @@ use Rattle.std.specs.Ordering.{eq_by_cmp}
 use Rattle.std.specs.List.{list_any}
 use Rattle.std.specs.FinSet as set
 use Rattle.std.specs.FinMap.{get}
-use Rattle.asm_io.specs.declared.sources.Place.{Place}
+use Rattle.asm_source.specs.declared.sources.Place.{Place}
 use Rattle.asm_domain.specs.declared.value.Value.{Value}
 use Rattle.asm_domain.specs.declared.value.Value.TheVariants.{Undef, Bool, Int, Elem}
 use Rattle.asm_sign.specs.declared.function.Function.{Function}

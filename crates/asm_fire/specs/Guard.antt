@@ -1,6 +1,6 @@
 -- Whether a guard is true.
 use Rattle.std.specs.Prelude.{ℕ, List, Bool as Truth}
-use Rattle.asm_io.specs.declared.sources.Place.{Place}
+use Rattle.asm_source.specs.declared.sources.Place.{Place}
 use Rattle.asm_domain.specs.declared.value.Value.{Value}
 use Rattle.asm_domain.specs.declared.value.Value.TheVariants.{Bool}
 use Rattle.asm_node.specs.declared.stop.Stop.TheVariants.{UndefGuard}

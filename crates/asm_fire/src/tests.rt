@@ -10,10 +10,10 @@ ghost use Rattle.asm_node.specs.Tree as tree;
 
 use crate::{FireError, fire};
 use asm_domain::{Domain, Value};
-use asm_io::Place;
 use asm_list::{Listed, Name};
 use asm_node::{Binder, Input, Model, Pool, Rule, RuleKind, Stop, Term, TermKind, Words};
 use asm_sign::{DeclaredDomain, Domains, FunKind, Function, Functions, Signature};
+use asm_source::Place;
 use asm_state::MapStore;
 use asm_update::Updates;
 use std::alloc::{AllocError, Global};

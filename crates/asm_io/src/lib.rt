@@ -1,6 +1,6 @@
 //! What the program sees of the outside: files that it reads from a shelf, and a sink that it writes to.
 //!
-//! Beside them stand the texts that are read and printed, and the places in them.
+//! Beside them it hands out the texts that are read and printed, and the places in them.
 #![tactic(auto)]
 
 mod failures;
@@ -13,10 +13,11 @@ mod out;
 mod print;
 mod shelf;
 mod sink;
-mod sources;
-mod text;
 
 pub use asm_list::{Listed, Name};
+pub use asm_source::{
+    Place, Source, Sources, Spot, Text, append_integer, append_number, append_str,
+};
 pub use folder::FolderShelf;
 pub use memory_shelf::MemoryShelf;
 pub use memory_sink::MemorySink;
@@ -25,8 +26,6 @@ pub use out::OutSink;
 pub use print::{write_both, write_text};
 pub use shelf::{ReadError, Shelf};
 pub use sink::{Sink, SinkError};
-pub use sources::{Place, Source, Sources, Spot};
-pub use text::{Text, append_integer, append_number, append_str};
 
 #[cfg(test)]
 mod tests;

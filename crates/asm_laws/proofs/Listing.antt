@@ -10,7 +10,7 @@ use Rattle.asm_node.specs.declared.stop.Stop.TheVariants.{Clash}
 use Rattle.asm_node.specs.RuleTree.{Rule, Par, Seq, none, more}
 use Rattle.asm_node.specs.Machine.{Machine, State, revised, no_input}
 use Rattle.asm_node.proofs.Revising.{revised-listed, no_shared}
-use Rattle.asm_io.specs.declared.sources.Place.{Place}
+use Rattle.asm_source.specs.declared.sources.Place.{Place}
 use Rattle.asm_node.specs.Term.{World, Places}
 use Rattle.asm_node.specs.UpdateSet.{UpdateSet, Pair, pair_cmp, agree, override, fire, ranked_values, first_two, clash, clash_from}
 use Rattle.asm_node.specs.declared.path.Step.TheVariants.{Part}

@@ -1,7 +1,7 @@
 -- A worked model: a truth value x, and the main rule x := not x.
 use Rattle.std.proofs.Common.{◌≡◌, ℕ, zero, suc, ◌<◌, [], ◌∷◌, length, slice_get, Some, None, All, refl, sym, subst, arith}
 use Rattle.std.specs.Prelude.{false}
-use Rattle.asm_io.specs.declared.sources.Place.{Place}
+use Rattle.asm_source.specs.declared.sources.Place.{Place}
 use Rattle.asm_domain.specs.Universe.{AreDistinct, Truths}
 use Rattle.asm_sign.specs.declared.function.DeclaredDomain.{DeclaredDomain}
 use Rattle.asm_sign.specs.declared.function.FunKind.TheVariants.{Controlled}

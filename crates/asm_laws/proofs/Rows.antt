@@ -1,6 +1,6 @@
 -- Steps of small machines, as the language has them.
 use Rattle.std.proofs.Common.{None, Ok, Err, ◌≡◌, ℕ, true, List, [], ◌∷◌, pos, refl, ap, ◌∙◌}
-use Rattle.asm_io.specs.declared.sources.Place.{Place}
+use Rattle.asm_source.specs.declared.sources.Place.{Place}
 use Rattle.asm_domain.specs.declared.value.Value.{Value}
 use Rattle.asm_domain.specs.declared.value.Value.TheVariants.{Undef, Bool, Int}
 use Rattle.asm_domain.specs.Universe.{Numbers}

@@ -9,7 +9,7 @@ use Rattle.asm_sign.specs.declared.function.DeclaredDomain.{DeclaredDomain}
 use Rattle.asm_sign.specs.declared.function.Function.{Function}
 use Rattle.asm_sign.specs.declared.function.FunKind.{FunKind}
 use Rattle.asm_sign.specs.declared.function.FunKind.TheVariants.{Static, Controlled, Shared, Monitored}
-use Rattle.asm_io.specs.declared.sources.Place.{Place}
+use Rattle.asm_source.specs.declared.sources.Place.{Place}
 use Rattle.asm_node.specs.declared.operator.Op.{Op}
 use Rattle.asm_node.specs.declared.operator.Op.TheVariants.{And, Or, Equal, Less, Plus, Idiv, Mod, IsDefined}
 use Rattle.asm_node.specs.declared.operator.Quantifier.TheVariants.{Forall, Exist, ExistUnique}

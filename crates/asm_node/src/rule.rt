@@ -1,6 +1,6 @@
 use crate::term::{Binder, Term};
-use asm_io::Place;
 use asm_list::Listed;
+use asm_source::Place;
 use std::rc::Rc;
 
 /// A rule with the number that its pool gave it.

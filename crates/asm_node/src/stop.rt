@@ -1,5 +1,5 @@
 use asm_domain::Value;
-use asm_io::Place;
+use asm_source::Place;
 
 /// Why a run goes no further. Locations are told by their slots, and each place is that of a rule's first token.
 #[derive(Clone, Copy, Debug, PartialEq, Eq)]

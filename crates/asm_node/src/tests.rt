@@ -1,6 +1,6 @@
 use crate::{Choices, Env, Input, Inputs, Path, Pool, RuleKind, Step, TermKind, Values, close};
 use asm_domain::Value;
-use asm_io::Place;
+use asm_source::Place;
 use std::test::Fail;
 
 #[test]

@@ -1,6 +1,6 @@
 -- Rules with the names of variables in place of their numbers.
 use Rattle.std.proofs.Common.{ℕ, List}
-use Rattle.asm_io.specs.declared.sources.Place.{Place}
+use Rattle.asm_source.specs.declared.sources.Place.{Place}
 use Rattle.asm_sign.specs.Vocabulary.{Vocabulary}
 use Rattle.asm_node.specs.RuleTree as rule
 use Rattle.asm_node.specs.RuleTree.{Rule, Rules}

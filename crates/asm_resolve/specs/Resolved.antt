@@ -1,7 +1,7 @@
 -- What the model check comes to: the model of files, or what is told of the first fault.
 use Rattle.std.specs.Prelude.{◌≡◌, ℕ, List, [], ◌∷◌, Option, Some, slice_get}
 use Rattle.std.specs.Option.{option_map, unwrap_or}
-use Rattle.asm_io.specs.declared.sources.Place.{Place}
+use Rattle.asm_source.specs.declared.sources.Place.{Place}
 use Rattle.asm_sign.specs.Vocabulary.{Vocabulary}
 use Rattle.asm_node.specs.Machine.{Machine}
 use Rattle.asm_tree.specs.declared.unit.LoadedUnit.{LoadedUnit}

@@ -2,8 +2,8 @@ ghost use Rattle.std.specs.Prelude.{◌≡◌};
 ghost use Rattle.asm_resolve.specs.declared.error.ModelError.TheVariants.{Memory};
 
 use asm_faults::ModelFault;
-use asm_io::Place;
 use asm_list::Name;
+use asm_source::Place;
 use std::alloc::AllocError;
 
 /// Why files are no model.

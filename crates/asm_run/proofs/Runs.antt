@@ -3,7 +3,7 @@ use Rattle.std.proofs.Common.{◌≡◌, ℕ, suc, zero, ◌+◌, ◌-◌, ◌<�
 use Rattle.std.specs.Prelude.{Result, Ok, Err}
 use Rattle.asm_io.specs.Outside.{Adds}
 use Rattle.asm_io.specs.Writes.{Writes, WritesFront}
-use Rattle.asm_io.specs.declared.sources.Source.{Source}
+use Rattle.asm_source.specs.declared.sources.Source.{Source}
 use Rattle.asm_io.proofs.Printing.{front_more, front_none, front_part, rose_after}
 use Rattle.asm_node.specs.declared.stop.Stop.{Stop}
 use Rattle.asm_node.specs.Machine.{Machine, State, Input, no_input}

@@ -4,7 +4,7 @@ use Rattle.std.proofs.Common.{refl, ap, sym, eq-eqb, true≢false}
 use Rattle.std.specs.Coded.{Coded, code_by, coded_list, coded_ℕ, coded_option, coded×}
 use base.Stored.{Gv, gnil, gnum, gcons, num}
 use Rattle.asm_domain.specs.contracts.value.Value as value
-use Rattle.asm_io.specs.contracts.sources.Place as place
+use Rattle.asm_source.specs.contracts.sources.Place as place
 use Rattle.asm_node.specs.contracts.operator.Op as operator
 use Rattle.asm_node.specs.contracts.operator.Quantifier as quantifier
 use Rattle.asm_node.specs.contracts.term.Binder as binder

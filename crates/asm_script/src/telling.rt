@@ -3,8 +3,8 @@ ghost use Rattle.std.specs.Prelude.{◌≡◌, None, OnOk, IfErr};
 ghost use Rattle.asm_script.specs.Script.{Tells, told_in};
 
 use asm_faults::{Fault, First};
-use asm_io::Place;
 use asm_resolve::ModelError;
+use asm_source::Place;
 
 /// Refuses what something is wrong with, in the file of this number.
 pub fn settle(file: u32, first: First) -> Result<(), ModelError>

@@ -1,7 +1,7 @@
 -- Inductions over rules by their forms, and faults and trees of rules at a form.
 use Rattle.std.proofs.Common.{◌≡◌, ℕ, List, ap, subst, ◌∙◌}
 use Rattle.std.proofs.Math.Path.{fun_ext}
-use Rattle.asm_io.specs.declared.sources.Place.{Place}
+use Rattle.asm_source.specs.declared.sources.Place.{Place}
 use Rattle.asm_sign.specs.Vocabulary.{Vocabulary}
 use Rattle.asm_node.specs.Tree.{Tree}
 use Rattle.asm_node.specs.RuleTree.{Rule}

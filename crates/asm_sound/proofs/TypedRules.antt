@@ -5,7 +5,7 @@ use Rattle.std.specs.Prelude.{map}
 use Rattle.std.specs.List.{flat_map}
 use Rattle.std.specs.Option.{unwrap_or}
 use Rattle.std.proofs.lemmas.Bool.{eqb-true as same_number}
-use Rattle.asm_io.specs.declared.sources.Place.{Place}
+use Rattle.asm_source.specs.declared.sources.Place.{Place}
 use Rattle.asm_sign.specs.declared.function.Function.{Function}
 use Rattle.asm_sign.specs.Kind.{is_kept}
 use Rattle.asm_sign.specs.Vocabulary.{Vocabulary}

@@ -4,8 +4,8 @@ use Rattle.std.specs.Prelude.{IsErrAnd, map, codes}
 use Rattle.std.specs.List.{flat_map, range_with_len}
 use Rattle.std.proofs.lemmas.Result.{err_from_is_err_and}
 use Rattle.asm_domain.specs.declared.value.Value.{Value}
-use Rattle.asm_io.specs.Appends.{Appends, AppendsPart, AppendsFront}
-use Rattle.asm_io.proofs.Printing.{text_front_none, text_front_more, text_front_part}
+use Rattle.asm_source.specs.Appends.{Appends, AppendsPart, AppendsFront}
+use Rattle.asm_source.proofs.Appending.{text_front_none, text_front_more, text_front_part}
 use Rattle.asm_node.specs.Machine.{State, has_kind}
 use Rattle.asm_sign.specs.Kind.{is_kept}
 use Rattle.asm_sign.specs.declared.function.Function.{Function}

@@ -7,10 +7,10 @@ use Rattle.std.specs.FinMap.{get}
 use Rattle.asm_domain.specs.Universe.{Universe, Truths, Numbers, Named}
 use Rattle.asm_domain.specs.declared.value.Value.{Value}
 use Rattle.asm_domain.specs.declared.value.Value.TheVariants.{Undef, Bool, Int, Elem}
-use Rattle.asm_io.specs.declared.sources.Place.{Place}
-use Rattle.asm_io.specs.declared.sources.Source.{Source}
-use Rattle.asm_io.specs.declared.sources.Spot.{Spot}
-use Rattle.asm_io.specs.Spots.{spot_at, text_of}
+use Rattle.asm_source.specs.declared.sources.Place.{Place}
+use Rattle.asm_source.specs.declared.sources.Source.{Source}
+use Rattle.asm_source.specs.declared.sources.Spot.{Spot}
+use Rattle.asm_source.specs.Spots.{spot_at, text_of}
 use Rattle.asm_node.specs.declared.stop.Stop.{Stop}
 use Rattle.asm_node.specs.declared.stop.Stop.TheVariants as stop
 use Rattle.asm_node.specs.Machine.{State, has_kind}

@@ -1,12 +1,12 @@
 //! The texts of locations.
 ghost use Rattle.std.specs.Prelude.{◌≡◌, ◌++◌, codes, map};
-ghost use Rattle.asm_io.specs.Appends.{Appends};
+ghost use Rattle.asm_source.specs.Appends.{Appends};
 ghost use Rattle.asm_text.specs.Texts as spec;
 
 use crate::value::print_value;
 use asm_domain::Value;
-use asm_io::{Text, append_str};
 use asm_sign::Signature;
+use asm_source::{Text, append_str};
 use std::alloc::AllocError;
 
 /// Appends the text of the location at a slot. Past the last slot there is nothing to append.

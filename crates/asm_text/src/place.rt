@@ -1,11 +1,11 @@
 //! The texts of places.
 ghost use Rattle.std.specs.Prelude.{◌≡◌, ◌++◌, ◌<◌, ◌≤◌, All, codes, length, slice_get};
 ghost use Rattle.std.specs.Fmt.{decimal};
-ghost use Rattle.asm_io.specs.Appends.{Appends};
-ghost use Rattle.asm_io.specs.Spots.{spot_at, text_of};
+ghost use Rattle.asm_source.specs.Appends.{Appends};
+ghost use Rattle.asm_source.specs.Spots.{spot_at, text_of};
 ghost use Rattle.asm_text.specs.Texts as spec;
 
-use asm_io::{Place, Sources, Spot, Text, append_number, append_str};
+use asm_source::{Place, Sources, Spot, Text, append_number, append_str};
 use std::alloc::AllocError;
 
 /// Appends a place as the file's name, the line and the column, both from 1, the column in bytes. A place past the end

@@ -1,7 +1,7 @@
 //! The texts of states.
 ghost use Rattle.std.specs.Prelude.{◌≡◌, ◌<◌, ◌++◌, ℕ, codes, is_some, length};
 ghost use Rattle.std.specs.FinMap.{get};
-ghost use Rattle.asm_io.specs.Appends.{Appends};
+ghost use Rattle.asm_source.specs.Appends.{Appends};
 ghost use Rattle.asm_node.specs.Machine.{has_kind};
 ghost use Rattle.asm_sign.specs.Kind.{is_kept};
 ghost use Rattle.asm_sign.specs.Vocabulary.{function_at, locations};
@@ -10,8 +10,8 @@ ghost use Rattle.asm_text.specs.Texts as spec;
 use crate::location::print_location;
 use crate::value::print_value;
 use asm_domain::Value;
-use asm_io::{Text, append_str};
 use asm_sign::Signature;
+use asm_source::{Text, append_str};
 use asm_state::Store;
 use std::alloc::AllocError;
 

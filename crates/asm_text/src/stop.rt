@@ -1,16 +1,16 @@
 //! The lines of stops.
 ghost use Rattle.std.specs.Prelude.{◌≤◌, ◌++◌, All, codes, length};
 ghost use Rattle.std.specs.Fmt.{decimal};
-ghost use Rattle.asm_io.specs.Appends.{Appends};
+ghost use Rattle.asm_source.specs.Appends.{Appends};
 ghost use Rattle.asm_text.specs.Texts as spec;
 
 use crate::location::print_location;
 use crate::place::{print_number, print_place};
 use crate::value::print_value;
 use asm_domain::Value;
-use asm_io::{Place, Sources, Text, append_str};
 use asm_node::Stop;
 use asm_sign::Signature;
+use asm_source::{Place, Sources, Text, append_str};
 use std::alloc::AllocError;
 
 /// Appends the line of a stop, with its end.

@@ -3,10 +3,10 @@ ghost use Rattle.asm_domain.specs.Universe.{Named, Numbers, numbers_between};
 
 use crate::{print_location, print_state, print_stop, print_value};
 use asm_domain::{Domain, Names, Value};
-use asm_io::{Place, Source, Sources, Text};
 use asm_list::{Listed, Name};
 use asm_node::Stop;
 use asm_sign::{DeclaredDomain, Domains, FunKind, Function, Functions, Signature};
+use asm_source::{Place, Source, Sources, Text};
 use asm_state::MapStore;
 use std::alloc::{AllocError, Global};
 use std::test::Fail;

@@ -1,12 +1,12 @@
 //! The texts of values.
 ghost use Rattle.std.specs.Prelude.{◌≡◌, [], slice_get};
 ghost use Rattle.std.specs.Option.{unwrap_or};
-ghost use Rattle.asm_io.specs.Appends.{Appends};
+ghost use Rattle.asm_source.specs.Appends.{Appends};
 ghost use Rattle.asm_text.specs.Texts as spec;
 
 use asm_domain::{Domain, Names, Value};
-use asm_io::{Text, append_integer, append_str};
 use asm_sign::Signature;
+use asm_source::{Text, append_integer, append_str};
 use std::alloc::AllocError;
 
 /// Appends the text of a value.

@@ -3,7 +3,7 @@ use Rattle.std.proofs.Common.{◌≡◌, ◌∙◌, ℕ, zero, suc, ◌+◌, ◌
 use Rattle.std.proofs.lemmas.Bool.Decides.{nat_tests}
 use Rattle.std.specs.FinMap.{get}
 use Rattle.asm_io.specs.Outside.{Files}
-use Rattle.asm_io.specs.declared.sources.Source.{Source}
+use Rattle.asm_source.specs.declared.sources.Source.{Source}
 use Rattle.asm_tree.specs.declared.unit.RawPath.{RawPath}
 use Rattle.asm_tree.specs.declared.unit.RawUnit.{RawUnit}
 use Rattle.asm_unit.specs.declared.error.LoadError.{LoadError}

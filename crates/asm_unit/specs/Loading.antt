@@ -3,8 +3,8 @@ use Rattle.std.specs.Prelude.{◌≡◌, ◌≢◌, ◌<◌, ◌≤◌, All, ℕ
 use Rattle.std.specs.List.{list_any}
 use Rattle.std.specs.FinMap.{get}
 use Rattle.asm_io.specs.Outside.{Files}
-use Rattle.asm_io.specs.declared.sources.Source.{Source}
-use Rattle.asm_io.specs.Spots.{text_of}
+use Rattle.asm_source.specs.declared.sources.Source.{Source}
+use Rattle.asm_source.specs.Spots.{text_of}
 use Rattle.asm_lex.specs.declared.token.Token.{Token}
 use Rattle.asm_tree.specs.declared.unit.RawPath.{RawPath}
 use Rattle.asm_tree.specs.declared.unit.RawUnit.{RawUnit}

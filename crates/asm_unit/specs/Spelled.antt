@@ -1,7 +1,7 @@
 -- What the bytes of a file are: its tokens, and its tree.
 use Rattle.std.specs.Prelude.{◌≡◌, ◌≢◌, ◌≤◌, ℕ, ◌-◌, Bool, false, ◌==◌, List, length, if◌then◌else◌, Result, Ok, Err, slice_get}
 use Rattle.std.specs.Option.{option_map_or}
-use Rattle.asm_io.specs.declared.sources.Place.{Place}
+use Rattle.asm_source.specs.declared.sources.Place.{Place}
 use Rattle.asm_lex.specs.declared.token.Token.{Token}
 use Rattle.asm_lex.specs.declared.error.LexError.{LexError}
 use Rattle.asm_lex.specs.declared.error.LexError.TheVariants as lex

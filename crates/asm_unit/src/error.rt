@@ -3,9 +3,9 @@
 ghost use Rattle.std.specs.Prelude.{◌≡◌};
 ghost use Rattle.asm_unit.specs.declared.error.LoadError.TheVariants.{Memory};
 
-use asm_io::Place;
 use asm_lex::LexError;
 use asm_list::Name;
+use asm_source::Place;
 use asm_tree::ParseError;
 use std::alloc::AllocError;
 

@@ -1,7 +1,7 @@
 //! What the definition of a model's files stands on.
 ghost use Rattle.std.specs.Prelude.{◌≡◌, ◌≢◌, ◌≤◌, ◌+◌, ◌↔◌, ℕ, List, length, Ok, Err};
 ghost use Rattle.asm_io.specs.Outside.{Files};
-ghost use Rattle.asm_io.specs.declared.sources.Source.{Source};
+ghost use Rattle.asm_source.specs.declared.sources.Source.{Source};
 ghost use Rattle.asm_lex.specs.declared.token.Token.{Token};
 ghost use Rattle.asm_tree.specs.declared.error.ParseError.{ParseError};
 ghost use Rattle.asm_tree.specs.declared.error.ParseError.TheVariants.{Memory};

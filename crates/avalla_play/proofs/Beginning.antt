@@ -1,7 +1,7 @@
 -- How a play begins, and how it ends in state 0.
 use Rattle.std.proofs.Common.{◌≡◌, ℕ, List, [], ◌++◌, Option, Some, None, refl, sym, ◌∙◌, append_assoc}
 use Rattle.asm_domain.specs.declared.value.Value.{Value}
-use Rattle.asm_io.specs.declared.sources.Source.{Source}
+use Rattle.asm_source.specs.declared.sources.Source.{Source}
 use Rattle.asm_node.specs.declared.stop.Stop.TheVariants as stop
 use Rattle.asm_node.specs.Machine.{Machine}
 use Rattle.asm_text.specs.Texts.{stop_line}

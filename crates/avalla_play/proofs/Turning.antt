@@ -1,7 +1,7 @@
 -- The turns of a `step until`.
 use Rattle.std.proofs.Common.{◌≡◌, ℕ, zero, suc, ◌-◌, ◌<◌, Bool as Truth, true, false, if◌then◌else◌, List, [], ◌++◌, Option, Some, None, refl, sym, ap, ◌∙◌, append-nil, arith, sub-one}
 use Rattle.std.specs.Prelude.{Result}
-use Rattle.asm_io.specs.declared.sources.Source.{Source}
+use Rattle.asm_source.specs.declared.sources.Source.{Source}
 use Rattle.asm_node.specs.declared.stop.Stop.TheVariants as stop
 use Rattle.asm_node.specs.Machine.{Machine}
 use Rattle.asm_node.specs.Term.{Outcome, Gives, Needs}

@@ -3,7 +3,7 @@ use Rattle.std.specs.Prelude.{ℕ, zero, suc, ◌+◌, Bool as Truth, true, fals
 use Rattle.std.specs.FinMap as finite
 use Rattle.std.specs.Fmt.{decimal}
 use Rattle.asm_domain.specs.declared.value.Value.{Value}
-use Rattle.asm_io.specs.declared.sources.Source.{Source}
+use Rattle.asm_source.specs.declared.sources.Source.{Source}
 use Rattle.asm_sign.specs.Vocabulary.{Vocabulary, function_at}
 use Rattle.asm_node.specs.declared.stop.Stop.{Stop}
 use Rattle.asm_node.specs.declared.stop.Stop.TheVariants as stop

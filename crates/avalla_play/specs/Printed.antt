@@ -1,6 +1,6 @@
 -- What a play prints, and how it ends.
 use Rattle.std.specs.Prelude.{ℕ, List, ◌++◌, Result, Ok, Err, codes}
-use Rattle.asm_io.specs.declared.sources.Source.{Source}
+use Rattle.asm_source.specs.declared.sources.Source.{Source}
 use Rattle.asm_node.specs.declared.stop.Stop.{Stop}
 use Rattle.asm_node.specs.Machine.{Machine, State, no_input}
 use Rattle.asm_node.specs.Step.{initial, broken}

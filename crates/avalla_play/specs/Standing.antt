@@ -1,7 +1,7 @@
 -- Where the code of a play stands, and what its calls answer.
 use Rattle.std.specs.Prelude.{◌≡◌, ⊤, ℕ, Bool as Truth, true, false, List, [], Option, Some, None, Result, Ok, Err, if◌then◌else◌}
 use Rattle.asm_domain.specs.declared.value.Value.{Value}
-use Rattle.asm_io.specs.declared.sources.Source.{Source}
+use Rattle.asm_source.specs.declared.sources.Source.{Source}
 use Rattle.asm_node.specs.declared.stop.Stop.TheVariants as stop
 use Rattle.asm_node.specs.Machine.{Machine}
 use Rattle.asm_node.specs.Step.{IsInput}

@@ -1,7 +1,7 @@
 //! What a play goes by from its first line to its last.
 
-use asm_io::Sources;
 use asm_node::Model;
+use asm_source::Sources;
 use std::alloc::Global;
 
 /// The model, the texts in which places are shown, and the greatest number of steps of each `step until`.

@@ -4,7 +4,7 @@ ghost use Rattle.std.specs.Fmt.{decimal};
 ghost use Rattle.asm_text.specs.Texts.{line};
 ghost use Rattle.avalla_play.specs.Moves.{check_line, spent};
 
-use asm_io::{Text, append_number, append_str};
+use asm_source::{Text, append_number, append_str};
 use std::alloc::{AllocError, Global};
 
 /// The line of a check that has passed.

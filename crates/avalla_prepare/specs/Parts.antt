@@ -1,7 +1,7 @@
 -- Blocks that have ended, as parts of the commands that are met so far.
 use Rattle.std.specs.Prelude.{◌≡◌, ◌≤◌, ◌<◌, ℕ, ⊤, ◌+◌, ◌++◌, All, List, ◌∷◌, length, take, drop, fold, slice_get, option_to_list, Option, Some, None, bytes_eq, if◌then◌else◌}
 use Rattle.std.specs.List.{flat_map}
-use Rattle.asm_io.specs.declared.sources.Place.{Place}
+use Rattle.asm_source.specs.declared.sources.Place.{Place}
 use Rattle.asm_faults.specs.At.{Name}
 use Rattle.asm_node.specs.Machine.{Machine}
 use Rattle.asm_resolve.specs.declared.error.ModelError.{ModelError}

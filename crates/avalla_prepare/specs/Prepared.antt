@@ -1,7 +1,7 @@
 -- What a scenario comes to over a model: its commands, or what is wrong with it first.
 use Rattle.std.specs.Prelude.{◌≡◌, ℕ, ⊤, Bool as Truth, true, false, List, [], ◌∷◌, Option, Some, None, Result, Ok, Err}
 use Rattle.std.specs.List.{flat_map}
-use Rattle.asm_io.specs.declared.sources.Place.{Place}
+use Rattle.asm_source.specs.declared.sources.Place.{Place}
 use Rattle.asm_domain.specs.declared.value.Value.{Value}
 use Rattle.asm_node.specs.Machine.{Machine}
 use Rattle.asm_node.specs.RuleTree.{Rule}

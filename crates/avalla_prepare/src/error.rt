@@ -1,9 +1,9 @@
 ghost use Rattle.std.specs.Prelude.{◌≡◌};
 ghost use Rattle.avalla_prepare.specs.declared.error.ScenarioError.TheVariants.{Memory};
 
-use asm_io::Place;
 use asm_list::Name;
 use asm_resolve::ModelError;
+use asm_source::Place;
 use std::alloc::AllocError;
 
 /// Why a scenario can't be played over a model.

@@ -13,10 +13,10 @@ ghost use Rattle.asm_bind.specs.Given.{given_or_name};
 
 use crate::error::ScenarioError;
 use asm_bind::{BadSet, Settable};
-use asm_io::Place;
 use asm_node::{Rule, Term};
 use asm_resolve::ModelError;
 use asm_script::Script;
+use asm_source::Place;
 use asm_tree::rule::RawRule;
 use asm_tree::script::RawSet;
 use asm_tree::term::RawTerm;

@@ -1,5 +1,5 @@
 use Rattle.std.proofs.Common.{List}
-use Rattle.asm_io.specs.declared.sources.Source.{Source}
+use Rattle.asm_source.specs.declared.sources.Source.{Source}
 use Rattle.asm_unit.specs.Loading.{units_in}
 use Rattle.asm_cli.specs.Answer.{loaded, says_checked}
 use Rattle.asm_cli.proofs.Loaded.{err_prefix, fails_from, all_short}

@@ -1,5 +1,5 @@
 use Rattle.std.proofs.Common.{List}
-use Rattle.asm_io.specs.declared.sources.Source.{Source}
+use Rattle.asm_source.specs.declared.sources.Source.{Source}
 use Rattle.asm_unit.specs.Loading.{unit_in}
 use Rattle.asm_cli.specs.Answer.{alone, says_canonical}
 use Rattle.asm_cli.proofs.Loaded.{err_prefix, fails_from}

@@ -1,5 +1,5 @@
 use Rattle.std.proofs.Common.{List, subst}
-use Rattle.asm_io.specs.declared.sources.Source.{Source}
+use Rattle.asm_source.specs.declared.sources.Source.{Source}
 use Rattle.asm_lex.specs.declared.token.Token.{Token}
 use Rattle.asm_unit.specs.Loading.{Follows, Judges, tokens_in}
 use Rattle.avalla_parse.specs.Parsed.{parsed_scenario}

@@ -1,5 +1,5 @@
 use Rattle.std.proofs.Common.{[], ◌∷◌, List, map, ap, sym, subst, ◌∙◌}
-use Rattle.asm_io.specs.declared.sources.Place.{Place}
+use Rattle.asm_source.specs.declared.sources.Place.{Place}
 use Rattle.asm_node.specs.declared.rule.Rule as node
 use Rattle.asm_node.specs.declared.term.Term.{Term}
 use Rattle.asm_node.specs.Machine.{Definition}

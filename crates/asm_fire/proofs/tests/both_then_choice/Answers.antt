@@ -1,7 +1,7 @@
 use Rattle.std.proofs.Common.{◌≡◌, true, [], ◌∷◌, ap, ◌∙◌}
 use Rattle.std.proofs.lemmas.Result.{IfOk-weaker}
 use Rattle.asm_domain.specs.declared.value.Value.TheVariants.{Bool}
-use Rattle.asm_io.specs.declared.sources.Place.{Place}
+use Rattle.asm_source.specs.declared.sources.Place.{Place}
 use Rattle.asm_node.specs.declared.rule.RuleKind as node
 use Rattle.asm_node.specs.RuleTree.{Rule, Update, Par, Seq, Choose, Skip, none, more, plain_rule, plain_rules, plain_kind}
 use Rattle.asm_node.specs.Tree.{Const, Var}

@@ -1,6 +1,6 @@
 use Rattle.std.proofs.Common.{sym, subst}
 use Rattle.asm_state.specs.State.{IsUndefined}
-use Rattle.asm_io.specs.declared.sources.Place.{Place}
+use Rattle.asm_source.specs.declared.sources.Place.{Place}
 use Rattle.asm_node.specs.Model.{machine_of}
 use Rattle.asm_fire.specs.Sound.{IsSound}
 use Rattle.asm_eval.proofs.Starting.{undefined-is-state}

@@ -1,5 +1,5 @@
 use Rattle.std.proofs.Common.{[], map, ap, sym, subst}
-use Rattle.asm_io.specs.declared.sources.Place.{Place}
+use Rattle.asm_source.specs.declared.sources.Place.{Place}
 use Rattle.asm_node.specs.declared.rule.Rule as node
 use Rattle.asm_node.specs.Parts.{defined_by}
 use Rattle.asm_node.specs.RuleTree.{Skip, plain_rule}

@@ -1,5 +1,5 @@
 use Rattle.std.proofs.Common.{ap, ◌++◌}
-use Rattle.asm_io.proofs.Printing.{appends_front, appends_after}
+use Rattle.asm_source.proofs.Appending.{appends_front, appends_after}
 use Rattle.asm_text.specs.Texts.{arguments_text}
 use Rattle.asm_text.proofs.Pieces.{ends, along}
 use Rattle.asm_text.proofs.location.print_call.Goals as goal

@@ -1,4 +1,4 @@
-use Rattle.asm_io.proofs.Printing.{appends_front, appends_back, appends_after}
+use Rattle.asm_source.proofs.Appending.{appends_front, appends_back, appends_after}
 use Rattle.asm_text.proofs.Pieces.{ends}
 use Rattle.asm_text.proofs.location.print_enclosed.Goals as goal
 

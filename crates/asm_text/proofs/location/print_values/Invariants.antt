@@ -1,6 +1,6 @@
 use Rattle.std.proofs.Common.{drop}
 use Rattle.std.specs.Prelude.{map}
-use Rattle.asm_io.specs.Appends.{AppendsFront}
+use Rattle.asm_source.specs.Appends.{AppendsFront}
 use Rattle.asm_text.specs.Texts.{value_text, with_commas}
 use Rattle.asm_text.proofs.Pieces.{rest_from}
 use Rattle.asm_text.proofs.location.print_values.Given as goal

@@ -1,4 +1,4 @@
-use Rattle.asm_io.proofs.Printing.{appends_front, appends_back, appends_after}
+use Rattle.asm_source.proofs.Appending.{appends_front, appends_back, appends_after}
 use Rattle.std.specs.Prelude.{codes}
 use Rattle.asm_text.specs.Texts.{location_text, value_text}
 use Rattle.asm_text.proofs.Pieces.{ends, along, four}

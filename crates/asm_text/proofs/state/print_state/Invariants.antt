@@ -1,6 +1,6 @@
 use Rattle.std.proofs.Common.{◌-◌, length}
 use Rattle.std.specs.List.{flat_map, range_with_len}
-use Rattle.asm_io.specs.Appends.{AppendsFront}
+use Rattle.asm_source.specs.Appends.{AppendsFront}
 use Rattle.asm_sign.specs.Vocabulary.{locations}
 use Rattle.asm_text.specs.Texts.{kept_line, state_text}
 use Rattle.asm_text.proofs.state.print_state.Given as goal

@@ -4,7 +4,7 @@ use Rattle.std.proofs.lemmas.List.{length-drop}
 use Rattle.std.specs.Prelude.{bytes_eq}
 use Rattle.std.proofs.lemmas.Iterator.{YieldsList-from_slice}
 use Rattle.std.proofs.lemmas.Iterator.Search.{position_from_yields_List}
-use Rattle.asm_io.specs.declared.sources.Source.{Source}
+use Rattle.asm_source.specs.declared.sources.Source.{Source}
 use Rattle.asm_unit.proofs.load.place_of.Goals as goal
 
 rest_whole : (n : ℕ) (s : List Source) → take (length s - n) (drop n s) ≡ drop n s

@@ -2,8 +2,8 @@ use Rattle.std.proofs.Common.{◌≡◌, ◌+◌, ◌%◌, [], ◌∷◌, ap, sy
 use Rattle.std.specs.Fmt.{decimal}
 use Rattle.std.proofs.lemmas.Fmt.{decimal_digit, decimal_step}
 use Rattle.std.proofs.lemmas.Result.{err_from_is_err_and}
-use Rattle.asm_io.proofs.Printing.{appends_stopped, appends_after, appends_whole}
-use Rattle.asm_io.proofs.text.+append_number.Goals as goal
+use Rattle.asm_source.proofs.Appending.{appends_stopped, appends_after, appends_whole}
+use Rattle.asm_source.proofs.text.+append_number.Goals as goal
 
 pub returns-then-number-lt10 : goal.returns-then-number-lt10
 returns-then-number-lt10 t c =

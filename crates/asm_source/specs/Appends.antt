@@ -1,6 +1,10 @@
 -- What a call that prints into a text in memory does to it.
 use Rattle.std.specs.Prelude.{◌≡◌, List, ℕ, ◌++◌, Result, OnOk, OnErr}
-use Rattle.asm_io.specs.Outside.{IsPrefix}
+
+-- the second list begins with the first
+pub record IsPrefix (part whole : List ℕ) : Type 0 where
+  pub rest : List ℕ
+  pub whole_is : whole ≡ part ++ rest
 
 -- the text has grown by a prefix of these bytes
 pub record AppendsPart (old new bytes : List ℕ) : Type 0 where

@@ -1,5 +1,5 @@
 ghost use Rattle.std.specs.Prelude.{◌≡◌, ◌==◌, [], count_by, take_while, reverse, not, ◌∷◌, ◌++◌, ◌<◌, ◌≤◌, ◌^◌, ◌↔◌, length, slice_get, IsNone, OnOk, OnErr, option_copied};
-ghost use Rattle.asm_io.specs.Spots.{IsPlace, spot_of, text_of};
+ghost use Rattle.asm_source.specs.Spots.{IsPlace, spot_of, text_of};
 
 use crate::Text;
 use asm_list::{Listed, Name};
@@ -37,7 +37,7 @@ pub struct Sources {
 
 impl Model for Sources {
     ghost use Rattle.std.specs.Prelude.{List};
-    ghost use Rattle.asm_io.specs.declared.sources.Source.{Source};
+    ghost use Rattle.asm_source.specs.declared.sources.Source.{Source};
 
     ghost Value = { List Source };
 

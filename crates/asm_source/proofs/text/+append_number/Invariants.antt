@@ -1,4 +1,4 @@
-use Rattle.asm_io.proofs.text.+append_number.Given as goal
+use Rattle.asm_source.proofs.text.+append_number.Given as goal
 
 abbrev pub decreases-append_number : goal.decreases-append_number
 decreases-append_number l = l.number

@@ -1,5 +1,5 @@
 ghost use Rattle.std.specs.Fmt.{decimal, signed_decimal};
-ghost use Rattle.asm_io.specs.Appends.{Appends};
+ghost use Rattle.asm_source.specs.Appends.{Appends};
 
 use asm_list::Listed;
 use std::alloc::AllocError;

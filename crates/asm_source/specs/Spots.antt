@@ -1,8 +1,8 @@
 -- Where a place in a file stands for its reader.
 use Rattle.std.specs.Prelude.{◌==◌, ◌+◌, ◌<◌, ◌≤◌, ℕ, List, [], length, take, take_while, reverse, count_by, not, slice_get, option_map, unwrap_or}
-use Rattle.asm_io.specs.declared.sources.Place.{Place}
-use Rattle.asm_io.specs.declared.sources.Source.{Source}
-use Rattle.asm_io.specs.declared.sources.Spot.{Spot}
+use Rattle.asm_source.specs.declared.sources.Place.{Place}
+use Rattle.asm_source.specs.declared.sources.Source.{Source}
+use Rattle.asm_source.specs.declared.sources.Spot.{Spot}
 
 -- the byte that ends a line
 abbrev pub line_feed : ℕ

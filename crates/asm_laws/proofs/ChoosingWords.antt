@@ -1,8 +1,9 @@
 -- What a rule gives where each choice is made at its path, it gives under some choice words.
-use Rattle.std.proofs.Common.{◌≡◌, ℕ, zero, suc, ◌<◌, ◌%◌, ◌++◌, ◌||◌, List, [], ◌∷◌, Option, Some, None, Bool as Truth, true, false, if◌then◌else◌, slice_get, slice_index_or, length, refl, ap, sym, ◌∙◌, subst, arith, append_assoc, true≢false}
+use Rattle.std.proofs.Common.{◌≡◌, ℕ, zero, suc, ◌<◌, ◌%◌, ◌++◌, ◌||◌, List, [], ◌∷◌, Option, Some, None, Bool as Truth, true, false, if◌then◌else◌, slice_get, slice_index_or, length, nat_lt, refl, ap, sym, ◌∙◌, subst, arith, append_assoc, true≢false}
 use Rattle.std.specs.Prelude.{⊤}
 use Rattle.std.specs.List.{list_any}
 use Rattle.std.proofs.Math.Nat.{mod-eq_of_lt}
+use Rattle.std.proofs.lemmas.Bool.Decides.{nat_tests}
 use Rattle.std.specs.FinSet as set
 use Rattle.asm_source.specs.declared.sources.Place.{Place}
 use Rattle.asm_domain.specs.declared.value.Value.{Value}
@@ -16,8 +17,8 @@ use Rattle.asm_node.specs.Machine.{Macro, tuples_of}
 use Rattle.asm_node.specs.Values.{same_all, is_undef, is_element}
 use Rattle.asm_node.specs.Term.{World, Outcome, Gives, Needs, branch, val, vals, Places, put, put_tuple, nowhere}
 use Rattle.asm_node.specs.UpdateSet.{UpdateSet, consistent, override, one}
-use Rattle.asm_node.specs.Taking.{Attempt, Yields, Faults, Bodies, Path, and_then, evaluated, valued, updated, update, each, candidates, chosen, taken, taken_all, body_taken, bodies_within, outcome, stand_for, fired, by_words, by_paths, candidate, Choosing}
-use Rattle.asm_laws.specs.Choosing.{GivesByWords, GivesByPaths}
+use Rattle.asm_node.specs.Taking.{Attempt, Yields, Faults, Pick, Bodies, Path, and_then, evaluated, valued, updated, update, each, candidates, chosen, taken, taken_all, body_taken, bodies_within, outcome, stand_for, fired, by_words, by_paths, candidate, Choosing}
+use Rattle.asm_laws.specs.Choosing.{GivesByWords, GivesByPaths, by_small_words, GivesBySmallWords}
 use Rattle.asm_node.proofs.Sameness.{same_all_is}
 
 -- the answer is also given where some words stand first, which are then taken
@@ -102,16 +103,16 @@ draws_update : (w : World) (place : Place) (f : ℕ) (function : Option Function
 draws_update w place f None vs value = tt
 draws_update w place f (Some function) vs value = draws_updated w place function.codomain _ value
 
-module _ (c : Choosing) (bodies : Bodies (Unit {0})) (bodies' : Bodies (List ℕ)) (drawn : (f : ℕ) (path : Path) (w : World) (e : Places) (ts : Trees) → Draws (bodies f path w e ts tt) (bodies' f path w e ts)) where
+module _ (c : Choosing) (pick : Pick (List ℕ)) (picks : (path : Path) (place : Place) (found : List (List Value)) → Draws (by_paths c path place found tt) (pick path place found)) (bodies : Bodies (Unit {0})) (bodies' : Bodies (List ℕ)) (drawn : (f : ℕ) (path : Path) (w : World) (e : Places) (ts : Trees) → Draws (bodies f path w e ts tt) (bodies' f path w e ts)) where
   mutual
-    pub draws_taken : (r : Rule) (path : Path) (w : World) (e : Places) → Draws (taken (by_paths c) bodies path w e r tt) (taken by_words bodies' path w e r)
+    pub draws_taken : (r : Rule) (path : Path) (w : World) (e : Places) → Draws (taken (by_paths c) bodies path w e r tt) (taken pick bodies' path w e r)
     draws_taken (Skip place) path w e = draws_none set.empty _ (λ rest. refl)
     draws_taken (Update place f ts t) path w e = draws_evaluated (vals w e ts) _ _ (λ vs. draws_update w place f (slice_get w.machine.signature.functions f) vs (val w e t))
     draws_taken (Par place rs) path w e = draws_all rs path 0 w e set.empty
     draws_taken (Seq place p q) path w e =
-        draws_then (taken (by_paths c) bodies (path ++ Part 0 ∷ []) w e p tt) _ (taken by_words bodies' (path ++ Part 0 ∷ []) w e p) _ (draws_taken p (path ++ Part 0 ∷ []) w e)
+        draws_then (taken (by_paths c) bodies (path ++ Part 0 ∷ []) w e p tt) _ (taken pick bodies' (path ++ Part 0 ∷ []) w e p) _ (draws_taken p (path ++ Part 0 ∷ []) w e)
         (λ u. draws_if (consistent u) _ _ _ _
-        (draws_then (taken (by_paths c) bodies (path ++ Part 1 ∷ []) (fired w u) e q tt) _ (taken by_words bodies' (path ++ Part 1 ∷ []) (fired w u) e q) _ (draws_taken q (path ++ Part 1 ∷ []) (fired w u) e) (λ v. draws_none (override u v) _ (λ rest. refl)))
+        (draws_then (taken (by_paths c) bodies (path ++ Part 1 ∷ []) (fired w u) e q tt) _ (taken pick bodies' (path ++ Part 1 ∷ []) (fired w u) e q) _ (draws_taken q (path ++ Part 1 ∷ []) (fired w u) e) (λ v. draws_none (override u v) _ (λ rest. refl)))
         (draws_none u _ (λ rest. refl)))
     draws_taken (If place g p q) path w e =
         draws_evaluated (val w e g) _ _ (λ v. draws_branch v _ _ _ _ _ _ (draws_taken p (path ++ Part 0 ∷ []) w e) (draws_taken q (path ++ Part 1 ∷ []) w e) tt)
@@ -122,28 +123,50 @@ module _ (c : Choosing) (bodies : Bodies (Unit {0})) (bodies' : Bodies (List ℕ
     draws_taken (Choose place bs g p q) path w e =
         draws_then (candidates place (λ vs. val w (put_tuple bs vs e) g) (tuples_of w.machine.signature bs) [] tt) _ _ _ (draws_candidates place (λ vs. val w (put_tuple bs vs e) g) (tuples_of w.machine.signature bs) [])
         (λ found. draws_chosen found _ _ _ _
-        (draws_then (by_paths c path place found tt) _ (by_words path place found) _ (draws_pick c path place found) (λ vs. draws_taken p (path ++ Bound vs ∷ []) w (put_tuple bs vs e)))
+        (draws_then (by_paths c path place found tt) _ (pick path place found) _ (picks path place found) (λ vs. draws_taken p (path ++ Bound vs ∷ []) w (put_tuple bs vs e)))
         (draws_taken q (path ++ Part 1 ∷ []) w e))
     draws_taken (Call place f ts) path w e = drawn f (path ++ Called f ∷ []) w e ts
 
-    pub draws_all : (rs : Rules) (path : Path) (n : ℕ) (w : World) (e : Places) (u : UpdateSet) → Draws (taken_all (by_paths c) bodies path n w e rs u tt) (taken_all by_words bodies' path n w e rs u)
+    pub draws_all : (rs : Rules) (path : Path) (n : ℕ) (w : World) (e : Places) (u : UpdateSet) → Draws (taken_all (by_paths c) bodies path n w e rs u tt) (taken_all pick bodies' path n w e rs u)
     draws_all none path n w e u = draws_none u _ (λ rest. refl)
     draws_all (more r rs) path n w e u =
-        draws_then (taken (by_paths c) bodies (path ++ Part n ∷ []) w e r tt) _ (taken by_words bodies' (path ++ Part n ∷ []) w e r) _ (draws_taken r (path ++ Part n ∷ []) w e) (λ v. draws_all rs path (suc n) w e (set.union u v))
+        draws_then (taken (by_paths c) bodies (path ++ Part n ∷ []) w e r tt) _ (taken pick bodies' (path ++ Part n ∷ []) w e r) _ (draws_taken r (path ++ Part n ∷ []) w e) (λ v. draws_all rs path (suc n) w e (set.union u v))
 
-draws_bodies : (c : Choosing) (n : ℕ) (f : ℕ) (path : Path) (w : World) (e : Places) (ts : Trees) → Draws (bodies_within (by_paths c) n f path w e ts tt) (bodies_within by_words n f path w e ts)
-draws_bodies c zero f path w e ts = draws_none set.empty _ (λ rest. refl)
-draws_bodies c (suc n) f path w e ts = go (slice_get w.machine.rules f) (draws_bodies c n)
+draws_bodies : (c : Choosing) (pick : Pick (List ℕ)) (picks : (path : Path) (place : Place) (found : List (List Value)) → Draws (by_paths c path place found tt) (pick path place found)) (n : ℕ) (f : ℕ) (path : Path) (w : World) (e : Places) (ts : Trees) → Draws (bodies_within (by_paths c) n f path w e ts tt) (bodies_within pick n f path w e ts)
+draws_bodies c pick picks zero f path w e ts = draws_none set.empty _ (λ rest. refl)
+draws_bodies c pick picks (suc n) f path w e ts = go (slice_get w.machine.rules f) (draws_bodies c pick picks n)
   where
-    go : (o : Option Macro) → ((f : ℕ) (path : Path) (w : World) (e : Places) (ts : Trees) → Draws (bodies_within (by_paths c) n f path w e ts tt) (bodies_within by_words n f path w e ts))
-        → Draws (body_taken (by_paths c) (bodies_within (by_paths c) n) path w e o ts tt) (body_taken by_words (bodies_within by_words n) path w e o ts)
+    go : (o : Option Macro) → ((f : ℕ) (path : Path) (w : World) (e : Places) (ts : Trees) → Draws (bodies_within (by_paths c) n f path w e ts tt) (bodies_within pick n f path w e ts))
+        → Draws (body_taken (by_paths c) (bodies_within (by_paths c) n) path w e o ts tt) (body_taken pick (bodies_within pick n) path w e o ts)
     go None inner = draws_none set.empty _ (λ rest. refl)
-    go (Some macro) inner = draws_taken c (bodies_within (by_paths c) n) (bodies_within by_words n) inner macro.body path w (stand_for macro.parameters e ts)
+    go (Some macro) inner = draws_taken c pick picks (bodies_within (by_paths c) n) (bodies_within pick n) inner macro.body path w (stand_for macro.parameters e ts)
 
 -- what a rule gives by paths, it gives by words
-pub outcome_draws : (c : Choosing) (w : World) (r : Rule) → Draws (outcome (by_paths c) w r tt) (outcome by_words w r)
-outcome_draws c w r = draws_taken c (bodies_within (by_paths c) 32) (bodies_within by_words 32) (draws_bodies c 32) r [] w nowhere
+pub outcome_draws : (c : Choosing) (pick : Pick (List ℕ)) (picks : (path : Path) (place : Place) (found : List (List Value)) → Draws (by_paths c path place found tt) (pick path place found)) (w : World) (r : Rule) → Draws (outcome (by_paths c) w r tt) (outcome pick w r)
+outcome_draws c pick picks w r = draws_taken c pick picks (bodies_within (by_paths c) 32) (bodies_within pick 32) (draws_bodies c pick picks 32) r [] w nowhere
 
 -- where some choices at paths give a set, some words do
 pub words_for : (w : World) (r : Rule) (u : UpdateSet) → GivesByPaths w r u → GivesByWords w r u
-words_for w r u p = (let k = subst (λ (o : Attempt (Unit {0}) UpdateSet). Draws o (outcome by_words w r)) p.gives (outcome_draws p.choosing w r) in record { words = k.0; gives = k.1 })
+words_for w r u p = (let k = subst (λ (o : Attempt (Unit {0}) UpdateSet). Draws o (outcome by_words w r)) p.gives (outcome_draws p.choosing by_words (draws_pick p.choosing) w r) in record { words = k.0; gives = k.1 })
+
+-- and some small words do
+draws_small : (c : Choosing) (path : Path) (place : Place) (found : List (List Value)) → Draws (by_paths c path place found tt) (by_small_words path place found)
+draws_small c path place found = go (c path)
+  where
+    go : (o : Option (List Value)) → Draws (candidate place found o) (by_small_words path place found)
+    go None = tt
+    go (Some tuple) =
+        elim (list_any (same_all tuple) found) as (λ (b : Truth). list_any (same_all tuple) found ≡ b → Draws (if b then Yields tuple tt else Faults (stop.Choice place) tt) (by_small_words path place found)) [
+          | true ↦ λ is.
+              (let p = at_place tuple found is in
+              let below : nat_lt p.0 (length found) ≡ true = grind (arith, nat_tests, p.1) in
+              (
+                p.0 ∷ [],
+                λ rest. ap (λ (b : Truth). if b then Yields (slice_index_or found p.0 []) rest else Faults (stop.Choice place) rest) below ∙ ap (λ (vs : List Value). Yields vs rest) p.2,
+              ))
+          | false ↦ λ is. tt
+        ] refl
+
+pub small_words_for : (w : World) (r : Rule) (u : UpdateSet) → GivesByPaths w r u → GivesBySmallWords w r u
+small_words_for w r u p =
+    (let k = subst (λ (o : Attempt (Unit {0}) UpdateSet). Draws o (outcome by_small_words w r)) p.gives (outcome_draws p.choosing by_small_words (draws_small p.choosing) w r) in record { words = k.0; gives = k.1 })

@@ -3,9 +3,11 @@ pub mod ChoosingWords
 pub mod Continuing
 pub mod Extending
 pub mod Filling
+pub mod Following
 pub mod Levels
 pub mod Listing
 pub mod ModelRows
+pub mod Needing
 pub mod Rows
 pub mod RuleLevels
 pub mod TermRows

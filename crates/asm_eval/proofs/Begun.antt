@@ -87,18 +87,24 @@ module _ (m : Machine) where
       apart : nat_eq q l ≡ false
       apart = elim (nat_eq q l) as (λ b. nat_eq q l ≡ b → b ≡ false) [ true ↦ λ is. absurd (omega (arith, lt, eqb→eq q l (subst T (sym is) tt))) | false ↦ λ _. refl ] refl
 
-  -- a kept location has an entry
-  some-entry : (l i : ℕ) (xs : List (ℕ × List Value)) → has_kind is_kept (function_of m.signature (slice_get xs i)) ≡ true → is_some (find nat_cmp (l + i) (initial_from m l xs)) ≡ true
-  some-entry l i [] kept = absurd (true≢false (sym kept))
-  some-entry l zero (x ∷ xs) kept =
-      ap (λ b. is_some (find nat_cmp (l + 0) (if b then (l, value_at m x) ∷ initial_from m (suc l) xs else initial_from m (suc l) xs))) kept
-      ∙ ap (λ b. is_some (cond b (Some (value_at m x)) (find nat_cmp (l + 0) (initial_from m (suc l) xs)))) (unsigned_tied (l + 0) l ∙ eq-eqb (l + 0) l (omega arith))
-  some-entry l (suc i) (x ∷ xs) kept =
-      let later : is_some (find nat_cmp (l + suc i) (initial_from m (suc l) xs)) ≡ true = ap (λ q. is_some (find nat_cmp q (initial_from m (suc l) xs))) (let e : l + suc i ≡ suc l + i = omega arith in e) ∙ some-entry (suc l) i xs kept in
-      elim (kept_location x) as (λ b. is_some (find nat_cmp (l + suc i) (if b then (l, value_at m x) ∷ initial_from m (suc l) xs else initial_from m (suc l) xs)) ≡ true) [
-        | false ↦ later
-        | true ↦ elim (eq_by_cmp nat_cmp (l + suc i) l) as (λ b. is_some (cond b (Some (value_at m x)) (find nat_cmp (l + suc i) (initial_from m (suc l) xs))) ≡ true) [ true ↦ refl | false ↦ later ]
+  -- exactly the kept locations have entries
+  pub entry-kept : (l i : ℕ) (xs : List (ℕ × List Value)) → is_some (find nat_cmp (l + i) (initial_from m l xs)) ≡ has_kind is_kept (function_of m.signature (slice_get xs i))
+  entry-kept l i [] = refl
+  entry-kept l zero (x ∷ xs) =
+      elim (kept_location x) as (λ b. is_some (find nat_cmp (l + 0) (if b then (l, value_at m x) ∷ initial_from m (suc l) xs else initial_from m (suc l) xs)) ≡ b) [
+        | false ↦ ap is_some (none-before (l + 0) (suc l) xs (omega arith))
+        | true ↦ ap (λ b. is_some (cond b (Some (value_at m x)) (find nat_cmp (l + 0) (initial_from m (suc l) xs)))) (unsigned_tied (l + 0) l ∙ eq-eqb (l + 0) l (omega arith))
       ]
+  entry-kept l (suc i) (x ∷ xs) =
+      let later : is_some (find nat_cmp (l + suc i) (initial_from m (suc l) xs)) ≡ has_kind is_kept (function_of m.signature (slice_get xs i)) = ap (λ q. is_some (find nat_cmp q (initial_from m (suc l) xs))) (let e : l + suc i ≡ suc l + i = omega arith in e) ∙ entry-kept (suc l) i xs in
+      elim (kept_location x) as (λ b. is_some (find nat_cmp (l + suc i) (if b then (l, value_at m x) ∷ initial_from m (suc l) xs else initial_from m (suc l) xs)) ≡ has_kind is_kept (function_of m.signature (slice_get xs i))) [
+        | false ↦ later
+        | true ↦ ap (λ b. is_some (cond b (Some (value_at m x)) (find nat_cmp (l + suc i) (initial_from m (suc l) xs)))) (unsigned_tied (l + suc i) l ∙ apart (nat_eq (l + suc i) l) refl) ∙ later
+      ]
+    where
+      apart : (b : Truth) → nat_eq (l + suc i) l ≡ b → b ≡ false
+      apart true is = absurd (omega (arith, eqb→eq (l + suc i) l (subst T (sym is) tt)))
+      apart false is = refl
 
   abbrev either : Option Value → Option Value → Option Value
   either (Some v) o = Some v
@@ -143,5 +149,5 @@ module _ (m : Machine) where
       all : put_all s (initial_values m) ≡ from_entries (initial_values m)
       all = same_state _ _ (λ q. get-all s q 0 (locations m.signature)
           ∙ either-itself (find nat_cmp q (initial_values m)) (get s q) (kept_of (function_at m.signature q)) (undefined q) (λ kept.
-          ap (λ p. is_some (find nat_cmp p (initial_values m))) (let e : q ≡ 0 + q = omega arith in e) ∙ some-entry 0 q (locations m.signature) (sym (kept-is (function_at m.signature q)) ∙ kept))
+          ap (λ p. is_some (find nat_cmp p (initial_values m))) (let e : q ≡ 0 + q = omega arith in e) ∙ entry-kept 0 q (locations m.signature) ∙ sym (kept-is (function_at m.signature q)) ∙ kept)
           ∙ sym (get-from_entries nat_cmp_total (initial_values m) q))

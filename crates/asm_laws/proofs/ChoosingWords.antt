@@ -159,8 +159,7 @@ draws_small c path place found = go (c path)
         elim (list_any (same_all tuple) found) as (λ (b : Truth). list_any (same_all tuple) found ≡ b → Draws (if b then Yields tuple tt else Faults (stop.Choice place) tt) (by_small_words path place found)) [
           | true ↦ λ is.
               (let p = at_place tuple found is in
-              let below : nat_lt p.0 (length found) ≡ true = grind (arith, nat_tests, p.1) in
-              (
+              let below : nat_lt p.0 (length found) ≡ true = grind (arith, nat_tests, p.1) in (
                 p.0 ∷ [],
                 λ rest. ap (λ (b : Truth). if b then Yields (slice_index_or found p.0 []) rest else Faults (stop.Choice place) rest) below ∙ ap (λ (vs : List Value). Yields vs rest) p.2,
               ))

@@ -1,6 +1,5 @@
 -- Under an input that gives more, a rule that needs nothing gives the same, and so does a step.
 use Rattle.std.proofs.Common.{◌≡◌, ℕ, zero, suc, ◌++◌, List, [], ◌∷◌, Option, Some, None, Bool as Truth, true, false, if◌then◌else◌, slice_get, refl, ap, sym, ◌∙◌, subst, Result, Ok, Err}
-use Rattle.std.specs.Prelude.{⊤}
 use Rattle.std.specs.Option.{unwrap_or, option_map}
 use Rattle.std.specs.FinSet as set
 use Rattle.std.specs.FinMap as finite
@@ -19,17 +18,11 @@ use Rattle.asm_sign.specs.Vocabulary.{function_at}
 use Rattle.asm_node.specs.UpdateSet.{UpdateSet, consistent, fire, clash}
 use Rattle.asm_node.specs.Taking.{Attempt, Yields, Faults, Pick, Bodies, Path, and_then, evaluated, valued, updated, update, each, candidates, chosen, taken, taken_all, body_taken, bodies_within, outcome, stand_for, by_words, by_paths}
 use Rattle.asm_node.specs.Step.{after, ended, next, Steps, shared_value, with_shared}
-use Rattle.asm_laws.specs.Extending.{Extends, StaysStep}
+use Rattle.asm_laws.specs.Extending.{GivesAll, Keeps, Stays, under, Extends, StaysStep}
 use Rattle.asm_node.proofs.Revising.{get-revised, same_state}
-use Rattle.asm_laws.proofs.Extending.{Keeps, GivesMore, WithInput, val-kept, vals-kept}
+use Rattle.asm_laws.proofs.Extending.{WithInput, val-kept, vals-kept}
 
 module _ {S : Type 0} where
-  -- a set, or a fault that is no need, is the other one's too
-  abbrev pub Stays : {A : Type 0} → Attempt S A → Attempt S A → Type 0
-  Stays (Yields a t) p = p ≡ Yields a t
-  Stays (Faults (stop.Input l) t) p = ⊤
-  Stays (Faults e t) p = p ≡ Faults e t
-
   stays_same : {A : Type 0} (o : Attempt S A) → Stays o o
   stays_same (Yields a t) = refl
   stays_same (Faults (stop.Input l) t) = tt
@@ -80,7 +73,7 @@ module _ {S : Type 0} where
   stays_chosen [] o p q r h k = k
   stays_chosen (vs ∷ found) o p q r h k = h
 
-module _ (m : Machine) (i j : Input) (more_given : GivesMore i j) where
+module _ (m : Machine) (i j : Input) (more_given : GivesAll i j) where
   abbrev w : State → World
   w s = WithInput m s i
 
@@ -147,6 +140,12 @@ module _ (m : Machine) (i j : Input) (more_given : GivesMore i j) where
     -- what a rule gives, or why it gives nothing, but for a need, stays under an input that gives more
     pub outcome_stays : (pick : Pick S) (s : State) (r : Rule) (k : S) → Stays (outcome pick (w s) r k) (outcome pick (w' s) r k)
     outcome_stays pick s r k = stays_taken pick (bodies_within pick 32) (stays_bodies pick 32) r [] s nowhere k
+
+pub value_stays : (w : World) (j : Input) → GivesAll w.input j → (e : Places) (t : Tree) → Keeps (val w e t) (val (under w j) e t)
+value_stays w j given e t = val-kept w.machine w.state w.input j given e t
+
+pub gives_stays : {S : Type 0} (pick : Pick S) (w : World) (j : Input) → GivesAll w.input j → (r : Rule) (k : S) → Stays (outcome pick w r k) (outcome pick (under w j) r k)
+gives_stays pick w j given r k = outcome_stays w.machine w.input j given pick w.state r k
 
 -- ---- steps
 

@@ -1,6 +1,5 @@
 -- Under an input that gives more, a term that needs nothing has the same value.
 use Rattle.std.proofs.Common.{◌≡◌, ℕ, zero, suc, List, [], ◌∷◌, Option, Some, None, Bool as Truth, true, false, if◌then◌else◌, nat_eq, slice_get, refl, ap}
-use Rattle.std.specs.Bool.{⊤}
 use Rattle.std.specs.FinMap as finite
 use Rattle.asm_domain.specs.declared.value.Value.{Value}
 use Rattle.asm_domain.specs.declared.value.Value.TheVariants.{Undef, Bool, Int, Elem}
@@ -11,11 +10,7 @@ use Rattle.asm_node.specs.Tree.{Tree, Const, Var, Within, Get, Oper, Cond, Let, 
 use Rattle.asm_node.specs.Values.{are_arguments}
 use Rattle.asm_node.specs.Machine.{Machine, State, Input, Definition, definition_of, slot_at, tuples_of}
 use Rattle.asm_node.specs.Term.{Outcome, Gives, Needs, and_then, World, Reads, Calls, unbound, with_value, with_tuple, parameters_have, input_value, state_value, given, read, branch, guard_values, value_of, values_of, defined_value, value_of_function, calls_within, calls_of, Places, reads_at, val, vals}
-
--- an answer is the other one's too
-abbrev pub Keeps : {A : Type 0} → Outcome A → Outcome A → Type 0
-Keeps (Gives a) o = o ≡ Gives a
-Keeps (Needs l) o = ⊤
+use Rattle.asm_laws.specs.Extending.{GivesAll, Keeps}
 
 keeps_then : {A B : Type 0} (o p : Outcome A) (f g : A → Outcome B) → Keeps o p → ((a : A) → Keeps (f a) (g a)) → Keeps (and_then o f) (and_then p g)
 keeps_then (Gives a) p f g same each = rw same (each a)
@@ -28,10 +23,6 @@ itself (Needs l) = tt
 abbrev pub WithInput : Machine → State → Input → World
 WithInput m s i = record { machine = m; state = s; input = i }
 
--- the input gives all that the other gives
-abbrev pub GivesMore : Input → Input → Type 0
-GivesMore i j = (l : ℕ) (v : Value) → finite.get i l ≡ Some v → finite.get j l ≡ Some v
-
 keeps_if : {A : Type 0} (b : Truth) (o p q r : Outcome A) → Keeps o p → Keeps q r → Keeps (if b then o else q) (if b then p else r)
 keeps_if true o p q r first second = first
 keeps_if false o p q r first second = second
@@ -43,7 +34,7 @@ keeps_branch Undef o p q r first second = refl
 keeps_branch (Int z) o p q r first second = refl
 keeps_branch (Elem d k) o p q r first second = refl
 
-module _ (m : Machine) (s : State) (i j : Input) (more_given : GivesMore i j) where
+module _ (m : Machine) (s : State) (i j : Input) (more_given : GivesAll i j) where
   abbrev w : World
   w = WithInput m s i
 

@@ -5,10 +5,10 @@ use Rattle.std.specs.FinMap as finite
 use Rattle.asm_domain.specs.declared.value.Value.{Value}
 use Rattle.asm_sign.specs.Vocabulary.{function_at}
 use Rattle.asm_node.specs.Machine.{Machine, State, Input, has_kind, is_shared}
-use Rattle.asm_node.specs.Step.{IsState, IsInput, may_have, shared_value, world_at}
+use Rattle.asm_node.specs.Step.{IsState, IsInput, may_have, shared_value, with_shared, world_at}
 use Rattle.asm_node.specs.Values.{is_undef}
 use Rattle.asm_node.specs.Filled.{IsFilled}
-use Rattle.asm_node.proofs.Revising.{get-revised}
+use Rattle.asm_node.proofs.Revising.{get-revised, has-revised}
 
 second : (a b : Truth) → IsTrue (a && b) → IsTrue b
 second true b h = h
@@ -36,4 +36,11 @@ module _ (m : Machine) (s : State) (i : Input) (is_state : IsState m s) (is_inpu
   filled_at = record {
     state = λ l v e. held l (finite.get s l) v refl (sym (get-revised (shared_value m.signature i) s l) ∙ e);
     input = λ l v e. second (not (is_undef v)) _ (is_input.may_give l v e);
+  }
+
+  -- the state with the input's shared values is a state
+  pub shared_state : IsState m (with_shared m.signature i s)
+  shared_state = record {
+    has_kept = λ l. has-revised (shared_value m.signature i) s l ∙ is_state.has_kept l;
+    may_have_it = filled_at.state;
   }

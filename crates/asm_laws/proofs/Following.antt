@@ -1,18 +1,16 @@
 -- Where one way to choose chooses, another chooses the same: then a rule gives the same.
 use Rattle.std.proofs.Common.{◌≡◌, ℕ, zero, suc, ◌<◌, ◌%◌, ◌++◌, List, [], ◌∷◌, Option, Some, None, Bool as Truth, true, false, if◌then◌else◌, slice_get, slice_index_or, length, nat_lt, refl, ap, subst, arith}
 use Rattle.std.specs.Prelude.{⊤}
-use Rattle.std.specs.List.{list_any}
 use Rattle.std.specs.FinSet as set
 use Rattle.std.proofs.Math.Nat.{mod-eq_of_lt}
 use Rattle.std.proofs.lemmas.Bool.Decides.{nat_tests}
-use Rattle.asm_io.specs.declared.sources.Place.{Place}
+use Rattle.asm_source.specs.declared.sources.Place.{Place}
 use Rattle.asm_domain.specs.declared.value.Value.{Value}
 use Rattle.asm_domain.specs.declared.value.Value.TheVariants.{Undef, Bool, Int, Elem}
 use Rattle.asm_node.specs.declared.stop.Stop.TheVariants as stop
 use Rattle.asm_node.specs.declared.path.Step.TheVariants.{Part, Called, Bound}
 use Rattle.asm_node.specs.Tree.{Trees, Const}
 use Rattle.asm_node.specs.RuleTree.{Rule, Rules, Skip, Update, Par, Seq, If, Let, Forall, Choose, Call, none, more}
-use Rattle.asm_node.specs.Values.{same_all}
 use Rattle.asm_node.specs.Machine.{Macro, tuples_of}
 use Rattle.asm_node.specs.Term.{World, Outcome, Gives, Needs, branch, val, Places, put, put_tuple, nowhere}
 use Rattle.asm_node.specs.UpdateSet.{UpdateSet, consistent}

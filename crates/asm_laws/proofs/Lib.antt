@@ -10,4 +10,6 @@ pub mod ModelRows
 pub mod Needing
 pub mod Rows
 pub mod RuleLevels
+pub mod Started
+pub mod Stepping
 pub mod TermRows

@@ -1,5 +1,5 @@
 -- Under a full input nothing is needed.
-use Rattle.std.proofs.Common.{◌≡◌, ℕ, zero, suc, List, [], ◌∷◌, ◌++◌, Option, Some, None, Bool as Truth, true, false, if◌then◌else◌, nat_eq, slice_get, refl, ap, sym, ◌∙◌, subst, IsTrue}
+use Rattle.std.proofs.Common.{◌≡◌, ℕ, zero, suc, List, [], ◌∷◌, Option, Some, None, Bool as Truth, true, false, if◌then◌else◌, nat_eq, slice_get, refl, ap, ◌∙◌}
 use Rattle.std.specs.Prelude.{⊤, IsSome}
 use Rattle.std.specs.FinMap as finite
 use Rattle.asm_domain.specs.declared.value.Value.{Value}
@@ -8,11 +8,10 @@ use Rattle.asm_sign.specs.declared.function.Function.{Function}
 use Rattle.asm_sign.specs.declared.function.FunKind.{FunKind}
 use Rattle.asm_sign.specs.declared.function.FunKind.TheVariants.{Static, Derived, Controlled, Shared, Monitored, Out}
 use Rattle.asm_sign.specs.Kind.{is_dynamic, is_kept}
-use Rattle.asm_sign.specs.Vocabulary.{function_at}
 use Rattle.asm_node.specs.declared.term.Binder.{Binder}
 use Rattle.asm_node.specs.Tree.{Tree, Const, Var, Within, Get, Oper, Cond, Let, Quant, Trees, none, more}
 use Rattle.asm_node.specs.Values.{are_arguments}
-use Rattle.asm_node.specs.Machine.{Machine, State, Input, Definition, definition_of, slot_at, tuples_of, has_kind, is_monitored}
+use Rattle.asm_node.specs.Machine.{Definition, definition_of, slot_at, tuples_of, has_kind, is_monitored}
 use Rattle.asm_node.specs.Term.{Outcome, Gives, Needs, and_then, World, Reads, Calls, unbound, with_value, with_tuple, parameters_have, input_value, state_value, given, read, branch, guard_values, value_of, values_of, defined_value, value_of_function, calls_within, calls_of, Places, reads_at, val, vals}
 use Rattle.asm_node.specs.Step.{IsFull}
 use Rattle.asm_node.proofs.Valued.{function_at_slot}

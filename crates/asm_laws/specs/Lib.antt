@@ -1,3 +1,4 @@
 pub mod Choosing
 pub mod Extending
 pub mod Levels
+pub mod Stepping

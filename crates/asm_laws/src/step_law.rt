@@ -1,0 +1,26 @@
+//! The laws on states and steps.
+ghost use Rattle.std.specs.Prelude.{◌≡◌, ℕ, List, [], Ok};
+ghost use Rattle.asm_node.specs.Machine.{Machine, State, Input};
+ghost use Rattle.asm_node.specs.Step.{IsState, IsInput, Steps, initial, next};
+ghost use Rattle.asm_node.specs.WellFormed.{IsWellFormed};
+ghost use Rattle.asm_laws.specs.Stepping.{AreDomains};
+
+/// The initial state is a state.
+#[tactic(auto, using(crate::proofs::Started::initial_is_state))]
+pub fn initial_states_are_states()
+    ensures { (m : Machine) (s : State) → initial m ≡ Ok s → IsState m s }
+{}
+
+/// A step from a state under an input of a well-formed model leads to a state.
+#[tactic(auto, using(crate::proofs::Stepping::steps_stay_states))]
+pub fn steps_lead_to_states()
+    ensures { (m : Machine) → IsWellFormed m → (s : State) (i : Input) (t : State) → IsState m s → IsInput m i → Steps m s i t → IsState m t }
+{}
+
+/// A step under some choices is the next state under some words, which are all taken, and the next state under any words is
+/// a step under some choices.
+#[tactic(auto, using(crate::proofs::Stepping::words_of, crate::proofs::Stepping::choices_of))]
+pub fn words_are_steps()
+    ensures words { (m : Machine) (s : State) (i : Input) (t : State) → AreDomains m → Steps m s i t → (words : List ℕ) × (next m s i words m.main ≡ Ok (t, [])) }
+    ensures choices { (m : Machine) (s : State) (i : Input) (t : State) (words rest : List ℕ) → IsWellFormed m → AreDomains m → IsInput m i → IsState m s → next m s i words m.main ≡ Ok (t, rest) → Steps m s i t }
+{}

@@ -1,4 +1,6 @@
 pub mod Choosing
 pub mod Extending
+pub mod Free
+pub mod Full
 pub mod Levels
-pub mod Stepping
+pub mod Sites

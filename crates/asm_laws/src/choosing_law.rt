@@ -3,7 +3,8 @@ ghost use Rattle.std.specs.Prelude.{◌≡◌, ℕ, List};
 ghost use Rattle.asm_node.specs.RuleTree.{Rule};
 ghost use Rattle.asm_node.specs.Term.{World};
 ghost use Rattle.asm_node.specs.UpdateSet.{UpdateSet};
-ghost use Rattle.asm_node.specs.Taking.{Yields, outcome, by_words, by_paths, Choosing};
+ghost use Rattle.asm_node.specs.Taking.{Yields, outcome, by_words, by_paths, Choosing, Path};
+ghost use Rattle.asm_laws.specs.Sites.{AreSites};
 ghost use Rattle.asm_laws.specs.Choosing.{TuplesDiffer, GivesByWords, by_small_words, GivesBySmallWords, GivesByPaths, GivesMore};
 
 /// A rule gives a set under some choice words exactly where it gives it under some choices at paths, if no domain has an
@@ -25,4 +26,11 @@ pub fn small_words_are_words()
 #[tactic(auto, using(crate::proofs::Following::by_more_choices))]
 pub fn choices_extend()
     ensures { (w : World) (r : Rule) (u : UpdateSet) (first second : Choosing) → GivesMore first second → outcome (by_paths first) w r tt ≡ Yields u tt → outcome (by_paths second) w r tt ≡ Yields u tt }
+{}
+
+/// A rule that gives a set under some choices at paths has chosen at finitely many paths, and gives the set under all choices
+/// that are the same there.
+#[tactic(auto, using(crate::proofs::Sites::sites_of))]
+pub fn sites_suffice()
+    ensures { (w : World) (r : Rule) (choosing : Choosing) (u : UpdateSet) → outcome (by_paths choosing) w r tt ≡ Yields u tt → (paths : List Path) × AreSites w r choosing u paths }
 {}

@@ -1,9 +1,10 @@
 //! The laws on states and steps.
-ghost use Rattle.std.specs.Prelude.{◌≡◌, ℕ, List, [], Ok};
+ghost use Rattle.std.specs.Prelude.{◌≡◌, ℕ, List, [], Ok, All};
 ghost use Rattle.asm_node.specs.Machine.{Machine, State, Input};
-ghost use Rattle.asm_node.specs.Step.{IsState, IsInput, Steps, initial, next};
+ghost use Rattle.asm_node.specs.Step.{IsState, IsInput, IsRun, Steps, initial, next};
 ghost use Rattle.asm_node.specs.WellFormed.{IsWellFormed};
-ghost use Rattle.asm_laws.specs.Stepping.{AreDomains};
+ghost use Rattle.step_laws.specs.Stepping.{AreDomains, Leads};
+ghost use Rattle.asm_node.specs.Taking.{Choosing};
 
 /// The initial state is a state.
 #[tactic(auto, using(crate::proofs::Started::initial_is_state))]
@@ -23,4 +24,16 @@ pub fn steps_lead_to_states()
 pub fn words_are_steps()
     ensures words { (m : Machine) (s : State) (i : Input) (t : State) → AreDomains m → Steps m s i t → (words : List ℕ) × (next m s i words m.main ≡ Ok (t, [])) }
     ensures choices { (m : Machine) (s : State) (i : Input) (t : State) (words rest : List ℕ) → IsWellFormed m → AreDomains m → IsInput m i → IsState m s → next m s i words m.main ≡ Ok (t, rest) → Steps m s i t }
+{}
+
+/// The states of a run of a well-formed model are states.
+#[tactic(auto, using(crate::proofs::Running::run_states))]
+pub fn runs_have_states()
+    ensures { (m : Machine) → IsWellFormed m → (inputs : List Input) (states : List State) → IsRun m inputs states → All (IsState m) states }
+{}
+
+/// A step under named choices leads to one state.
+#[tactic(auto, using(crate::proofs::Running::leads_once))]
+pub fn choices_lead_once()
+    ensures { (m : Machine) (s : State) (i : Input) (choosing : Choosing) (t u : State) → Leads m s i choosing t → Leads m s i choosing u → t ≡ u }
 {}

@@ -23,7 +23,7 @@ use Rattle.asm_node.proofs.UpdateSets.{of_list, pair_total, pair_apart}
 use Rattle.asm_update.specs.Clash.{HaveLocations, first_pair}
 use Rattle.asm_update.proofs.Clashes.{IsQuiet, clash_from-none}
 use Rattle.asm_update.proofs.Differing.{filtered_differ, one_value, consistent_without_clash}
-use Rattle.asm_laws.specs.Stepping.{AreDomains}
+use Rattle.step_laws.specs.Stepping.{AreDomains}
 use Rattle.asm_laws.proofs.Filling.{shared_state}
 
 module _ (m : Machine) (s : State) (i : Input) where

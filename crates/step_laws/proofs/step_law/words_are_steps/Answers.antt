@@ -1,5 +1,5 @@
-use Rattle.asm_laws.proofs.Stepping.{words_of, choices_of}
-use Rattle.asm_laws.proofs.step_law.words_are_steps.Goals as goal
+use Rattle.step_laws.proofs.Stepping.{words_of, choices_of}
+use Rattle.step_laws.proofs.step_law.words_are_steps.Goals as goal
 
 pub returns-clause-words : goal.returns-clause-words
 returns-clause-words c = λ m s i t domains p. words_of m s i t domains p

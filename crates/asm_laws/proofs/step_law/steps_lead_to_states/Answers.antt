@@ -1,5 +1,0 @@
-use Rattle.asm_laws.proofs.Stepping.{steps_stay_states}
-use Rattle.asm_laws.proofs.step_law.steps_lead_to_states.Goals as goal
-
-pub returns : goal.returns
-returns c = λ m formed s i t state input p. steps_stay_states m formed s i t state input p

@@ -1,0 +1,3 @@
+pub mod Running
+pub mod Started
+pub mod Stepping

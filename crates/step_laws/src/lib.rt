@@ -1,0 +1,9 @@
+//! Laws of states, steps and runs.
+#![tactic(auto)]
+
+mod step_law;
+
+pub use step_law::{
+    choices_lead_once, initial_states_are_states, runs_have_states, steps_lead_to_states,
+    words_are_steps,
+};

@@ -5,8 +5,8 @@ ghost use Rattle.asm_node.specs.Machine.{same_name};
 ghost use Rattle.asm_bind.specs.Given as spec;
 
 use asm_domain::{Domain, Value};
-use asm_eval::is_element;
 use asm_list::{Listed, Name};
+use asm_node::is_element;
 use asm_sign::Domains;
 use asm_tree::script::RawConstant;
 use std::alloc::{AllocError, Global};

@@ -14,9 +14,10 @@ use Rattle.asm_faults.specs.declared.fault.ModelFault.{ModelFault}
 use Rattle.asm_faults.specs.Files.{domains, functions, rules, invariants}
 use Rattle.asm_faults.specs.FunctionFaults.{signature_of, domains_of, function_of, declared_domain}
 use Rattle.asm_faults.specs.Check.{model_fault}
-use Rattle.asm_resolve.specs.declared.error.ModelError.{ModelError}
-use Rattle.asm_resolve.specs.declared.error.ModelError.TheVariants.{Fault, Memory}
-use Rattle.asm_resolve.specs.Resolved.{IsModelOf, told_of}
+use Rattle.asm_faults.specs.declared.error.ModelError.{ModelError}
+use Rattle.asm_faults.specs.declared.error.ModelError.TheVariants.{Fault, Memory}
+use Rattle.asm_faults.specs.Model.{IsModelOf}
+use Rattle.asm_resolve.specs.Resolved.{told_of}
 use Rattle.asm_cli.specs.declared.counts.Counts.{Counts}
 use Rattle.asm_cli.specs.declared.exit.Exit.{Exit}
 use Rattle.asm_cli.specs.declared.exit.Exit.TheVariants as exit

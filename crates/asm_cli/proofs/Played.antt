@@ -38,13 +38,13 @@ use Rattle.asm_faults.specs.Model.{IsNumbering, binders_of, machine_of, macro_of
 use Rattle.asm_bind.specs.Given.{given_or_name}
 use Rattle.asm_renaming.specs.Coded.{code, coded_machine}
 use Rattle.asm_renaming.specs.Meaning.{MeansTheSame, NumbersAreFree, ScriptsAgree, ScriptNumbersAreFree}
-use Rattle.asm_resolve.specs.Resolved.{IsModelOf}
+use Rattle.asm_faults.specs.Model.{IsModelOf}
 use Rattle.asm_run.specs.Printed.{numbered_state}
 use Rattle.asm_script.specs.Script.{AreNamedAlike, IsConditionOf, IsRuleOf, head_of, heads_in, rule_names}
 use Rattle.asm_text.specs.Texts.{line, state_text, stop_line}
 use Rattle.avalla_play.specs.declared.playing.Played.{Played}
 use Rattle.avalla_play.specs.declared.playing.Played.TheVariants as played
-use Rattle.avalla_play.specs.Acts.{Act, Sets, Steps, StepsUntil, Checks, Executes}
+use Rattle.avalla_command.specs.Acts.{Act, Sets, Steps, StepsUntil, Checks, Executes}
 use Rattle.avalla_play.specs.Moves.{Point, Move, stays, ends, after, onward, then_move, stops, kept, unless_broken, point_after, moved, step, worth, judged, spent, steps_until, checked, with_setting, acted, all_acted}
 use Rattle.avalla_play.specs.Printed.{Printed, finished, first_point, from_start, begun, play_of}
 use Rattle.avalla_prepare.specs.declared.error.ScenarioError.{ScenarioError}

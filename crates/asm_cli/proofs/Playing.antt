@@ -11,8 +11,8 @@ use Rattle.asm_faults.specs.declared.fault.Fault.{Fault as Found}
 use Rattle.asm_faults.specs.declared.fault.ModelFault.{ModelFault}
 use Rattle.asm_faults.specs.Check.{model_fault}
 use Rattle.asm_renaming.specs.Coded.{coded_machine}
-use Rattle.asm_resolve.specs.declared.error.ModelError.{ModelError}
-use Rattle.asm_resolve.specs.declared.error.ModelError.TheVariants as resolve
+use Rattle.asm_faults.specs.declared.error.ModelError.{ModelError}
+use Rattle.asm_faults.specs.declared.error.ModelError.TheVariants as resolve
 use Rattle.asm_resolve.specs.Resolved.{told_of}
 use Rattle.asm_unit.specs.Loading.{AddsFiles}
 use Rattle.avalla_play.specs.declared.playing.Played.{Played}

@@ -16,7 +16,7 @@ use Rattle.asm_unit.specs.declared.error.LoadError.{LoadError}
 use Rattle.asm_bind.specs.Given.{inputs_of}
 use Rattle.asm_renaming.specs.Coded.{code, coded_machine}
 use Rattle.asm_renaming.specs.Meaning.{MeansTheSame, NumbersAreFree}
-use Rattle.asm_resolve.specs.Resolved.{IsModelOf}
+use Rattle.asm_faults.specs.Model.{IsModelOf}
 use Rattle.asm_text.specs.Texts.{line, state_text, stop_line}
 use Rattle.asm_sign.specs.Vocabulary.{Vocabulary}
 use Rattle.asm_run.specs.declared.run.RunEnd.TheVariants as run_end

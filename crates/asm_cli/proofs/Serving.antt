@@ -18,8 +18,8 @@ use Rattle.asm_bind.specs.Given.{inputs_of, Tells as TellsSet}
 use Rattle.asm_faults.specs.declared.fault.Fault.{Fault as Found}
 use Rattle.asm_faults.specs.declared.fault.ModelFault.{ModelFault}
 use Rattle.asm_faults.specs.Check.{model_fault}
-use Rattle.asm_resolve.specs.declared.error.ModelError.{ModelError}
-use Rattle.asm_resolve.specs.declared.error.ModelError.TheVariants.{Fault, Memory}
+use Rattle.asm_faults.specs.declared.error.ModelError.{ModelError}
+use Rattle.asm_faults.specs.declared.error.ModelError.TheVariants.{Fault, Memory}
 use Rattle.asm_resolve.specs.Resolved.{told_of}
 use Rattle.asm_run.specs.declared.run.RunEnd.{RunEnd}
 use Rattle.asm_run.specs.declared.run.RunEnd.TheVariants.{Done, Stopped}

@@ -11,8 +11,8 @@ use Rattle.asm_tree.specs.declared.error.ParseError.{ParseError}
 use Rattle.asm_tree.specs.declared.error.ParseError.TheVariants as parse
 use Rattle.asm_faults.specs.declared.fault.ModelFault.{ModelFault}
 use Rattle.asm_faults.specs.declared.fault.ModelFault.TheVariants.{Duplicate, Unknown, WrongKind, WrongArity, WrongType, Unbound, EmptyDomain, DomainTooLarge, TooManyLocations, NoDefinition, NoMain, NoInit, Cycle, CallsTooDeep, ForbiddenRead, RangeTooWide}
-use Rattle.asm_resolve.specs.declared.error.ModelError.{ModelError}
-use Rattle.asm_resolve.specs.declared.error.ModelError.TheVariants as resolve
+use Rattle.asm_faults.specs.declared.error.ModelError.{ModelError}
+use Rattle.asm_faults.specs.declared.error.ModelError.TheVariants as resolve
 use Rattle.asm_text.specs.Texts.{place_text}
 use Rattle.avalla_prepare.specs.declared.error.ScenarioError.{ScenarioError}
 use Rattle.avalla_prepare.specs.declared.error.ScenarioError.TheVariants as scenario

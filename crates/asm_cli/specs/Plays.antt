@@ -22,7 +22,7 @@ use Rattle.asm_renaming.specs.Coded.{code, coded_machine}
 use Rattle.asm_resolve.specs.Resolved.{file_of}
 use Rattle.avalla_play.specs.declared.playing.Played.{Played}
 use Rattle.avalla_play.specs.declared.playing.Played.TheVariants.{Passed, CheckFailed, Stopped, Budget}
-use Rattle.avalla_play.specs.Acts.{Act, Sets, Steps, StepsUntil, Checks, Executes}
+use Rattle.avalla_command.specs.Acts.{Act, Sets, Steps, StepsUntil, Checks, Executes}
 use Rattle.avalla_play.specs.Printed.{Printed, play_of}
 use Rattle.avalla_prepare.specs.declared.error.ScenarioError.{ScenarioError}
 use Rattle.avalla_prepare.specs.Prepared.{scenario_fault}

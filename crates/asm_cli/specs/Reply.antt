@@ -7,7 +7,7 @@ use Rattle.asm_source.specs.declared.sources.Source.{Source}
 use Rattle.asm_unit.specs.declared.error.LoadError.{LoadError}
 use Rattle.asm_unit.specs.declared.error.LoadError.TheVariants.{Absent, TooLong, Read, Lex, Parse, ImportCycle, TooManyFiles}
 use Rattle.asm_unit.specs.declared.error.LoadError.TheVariants as load
-use Rattle.asm_resolve.specs.declared.error.ModelError.TheVariants as resolve
+use Rattle.asm_faults.specs.declared.error.ModelError.TheVariants as resolve
 use Rattle.avalla_prepare.specs.declared.error.ScenarioError.{ScenarioError}
 use Rattle.avalla_prepare.specs.declared.error.ScenarioError.TheVariants.{NoBlock, BadSet, Model}
 use Rattle.avalla_prepare.specs.declared.error.ScenarioError.TheVariants as scenario

@@ -4,7 +4,7 @@ ghost use Rattle.asm_io.specs.Outside.{Told, Rose};
 ghost use Rattle.asm_node.specs.Model.{machine_of};
 ghost use Rattle.asm_unit.specs.Loading.{AreUnits};
 ghost use Rattle.asm_faults.specs.Check.{model_fault};
-ghost use Rattle.asm_resolve.specs.Resolved.{IsModelOf};
+ghost use Rattle.asm_faults.specs.Model.{IsModelOf};
 ghost use Rattle.asm_cli.specs.Counts.{counts_of, counts_text};
 ghost use Rattle.asm_cli.specs.Exit.{OnCode, OnFault};
 ghost use Rattle.asm_cli.specs.Answer.{most_input_bytes, Prints, PrintsPart, Says, says_checked, says_outcome, loaded};

@@ -1,7 +1,7 @@
 //! How much a model declares.
 ghost use Rattle.std.specs.Prelude.{◌≡◌, ◌++◌, ◌∷◌, [], IfOk, OnOk};
 ghost use Rattle.asm_node.specs.Model.{machine_of};
-ghost use Rattle.asm_resolve.specs.Resolved.{IsModelOf};
+ghost use Rattle.asm_faults.specs.Model.{IsModelOf};
 ghost use Rattle.asm_cli.specs.Counts.{counts_of, counted, counts_text};
 
 use asm_node::Model;

@@ -5,7 +5,7 @@ ghost use Rattle.asm_node.specs.Model.{machine_of};
 ghost use Rattle.asm_node.specs.Step.{IsInput};
 ghost use Rattle.asm_unit.specs.Loading.{AreUnits};
 ghost use Rattle.asm_renaming.specs.Coded.{coded_machine};
-ghost use Rattle.asm_resolve.specs.Resolved.{IsModelOf};
+ghost use Rattle.asm_faults.specs.Model.{IsModelOf};
 ghost use Rattle.asm_run.specs.Printed.{run_of};
 ghost use Rattle.asm_cli.specs.Exit.{OnCode, OnFault};
 ghost use Rattle.asm_cli.specs.Answer.{most_input_bytes, Prints, PrintsPart, SaysRun, says_given, says_settled, says_run, says_outcome, loaded};

@@ -28,7 +28,7 @@ use Rattle.asm_node.proofs.Formed.{all_at, definition_found, definitions_ranged}
 use Rattle.asm_node.proofs.Ranging.{element_in}
 use Rattle.asm_node.proofs.Valued.{Answers, ReadsIn, put_reads, calls_in}
 use Rattle.asm_eval.specs.Beginning.{AreInitialsExact}
-use Rattle.asm_eval.proofs.Elements.{any_at}
+use Rattle.asm_node.proofs.Elements.{any_at}
 use Rattle.asm_eval.proofs.Single.{initials_prop}
 
 and_both : (a b : Truth) → a ≡ true → b ≡ true → (a && b) ≡ true

@@ -10,13 +10,12 @@ ghost use Rattle.asm_node.specs.Step.{IsState, alone, initial, initial_value, ma
 ghost use Rattle.asm_node.specs.Term.{calls_of};
 ghost use Rattle.asm_eval.specs.Beginning.{AreInitialsExact, Begins, put_checked, started_at, value_at};
 
-use crate::element::is_element;
 use crate::error::{EvalError, InitError};
 use crate::terms::eval_body;
 use crate::truth::is_undef;
 use crate::world::World;
 use asm_domain::Value;
-use asm_node::{Definition, Input, Model};
+use asm_node::{Definition, Input, Model, is_element};
 use asm_state::{MapStore, Store};
 use std::alloc::{AllocError, Global};
 

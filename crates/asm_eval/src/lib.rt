@@ -4,7 +4,6 @@
 mod apply;
 mod begin;
 mod bind;
-mod element;
 mod error;
 mod location;
 mod number;
@@ -16,9 +15,9 @@ mod truth;
 mod tuple;
 mod world;
 
+pub use asm_node::{is_element, within};
 pub use begin::initial;
 pub use bind::bound;
-pub use element::{is_element, within};
 pub use error::{EvalError, InitError};
 pub use terms::{eval, eval_all, eval_in};
 pub use truth::is_undef;

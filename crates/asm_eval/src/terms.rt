@@ -13,14 +13,15 @@ ghost use Rattle.asm_eval.specs.World.{world_in, reads_by, each_by, value_by, va
 
 use crate::apply::apply;
 use crate::bind::{bound, parameters};
-use crate::element::{are_arguments, within};
 use crate::error::EvalError;
 use crate::location::{constant_of, location_value};
 use crate::quantify::quantified;
 use crate::tuple::tuples_of;
 use crate::world::World;
 use asm_domain::Value;
-use asm_node::{Binder, Binding, Definition, Env, Input, Model, Term, TermKind, Values};
+use asm_node::{
+    Binder, Binding, Definition, Env, Input, Model, Term, TermKind, Values, are_arguments, within,
+};
 use asm_sign::Function;
 use asm_state::Store;
 use std::alloc::{AllocError, Global};

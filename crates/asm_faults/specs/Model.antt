@@ -199,3 +199,9 @@ module _ (number : Name → ℕ) (v : Vocabulary) (units : List LoadedUnit) wher
 -- the model that files without a fault are, with variables of these numbers
 abbrev pub machine_of : (Name → ℕ) → List LoadedUnit → Machine
 machine_of number units = machine_in number (signature_of units) units
+
+-- the machine is the model that the files are, where different variables have different numbers
+pub record IsModelOf (units : List LoadedUnit) (m : Machine) : Type 0 where
+  pub number : Name → ℕ
+  pub is_numbering : IsNumbering number
+  pub machine_is : m ≡ machine_of number units

@@ -2,6 +2,7 @@ pub mod Chosen
 pub mod Closed
 pub mod ClosedExact
 pub mod Closing
+pub mod Elements
 pub mod Exactly
 mod Firsts
 pub mod Formed
@@ -12,6 +13,7 @@ pub mod Ranging
 pub mod Revising
 pub mod Sameness
 pub mod Shared
+pub mod Slots
 pub mod Staying
 pub mod Trees
 pub mod UpdateSets

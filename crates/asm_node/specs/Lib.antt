@@ -1,4 +1,5 @@
 pub mod Choices
+pub mod Codes
 pub mod Env
 pub mod Exact
 pub mod Filled

@@ -4,6 +4,7 @@
 mod choices;
 mod close_term;
 mod definition;
+mod element;
 mod env;
 mod input;
 mod model;
@@ -21,6 +22,7 @@ mod words;
 pub use choices::Choices;
 pub use close_term::close;
 pub use definition::{Definition, Definitions, InitialTerms, MacroRule, Rules, Terms};
+pub use element::{are_arguments, is_element, within};
 pub use env::{Binding, Env};
 pub use input::{Input, Inputs};
 pub use model::Model;

@@ -8,8 +8,8 @@ use Rattle.asm_faults.specs.FunctionFaults.{signature_of, function_faults}
 use Rattle.asm_faults.specs.First.{noted, or_later, first_fault}
 use Rattle.asm_faults.specs.Check.{model_fault}
 use Rattle.asm_faults.proofs.Order.{none_at_all}
-use Rattle.asm_resolve.specs.declared.error.ModelError.{ModelError}
-use Rattle.asm_resolve.specs.declared.error.ModelError.TheVariants as error
+use Rattle.asm_faults.specs.declared.error.ModelError.{ModelError}
+use Rattle.asm_faults.specs.declared.error.ModelError.TheVariants as error
 use Rattle.asm_resolve.specs.Resolved.{Tells, declaration_faults, signature_faults, use_faults}
 
 -- the last pass alone has what all have left

@@ -3,25 +3,16 @@ use Rattle.std.specs.Prelude.{◌≡◌, ℕ, List, [], ◌∷◌, Option, Some,
 use Rattle.std.specs.Option.{option_map, unwrap_or}
 use Rattle.asm_source.specs.declared.sources.Place.{Place}
 use Rattle.asm_sign.specs.Vocabulary.{Vocabulary}
-use Rattle.asm_node.specs.Machine.{Machine}
 use Rattle.asm_tree.specs.declared.unit.LoadedUnit.{LoadedUnit}
 use Rattle.asm_faults.specs.declared.fault.Fault.{Fault as Found}
-use Rattle.asm_faults.specs.At.{Name}
 use Rattle.asm_faults.specs.DomainFaults.{name_faults, domain_faults}
 use Rattle.asm_faults.specs.FunctionFaults.{function_faults}
 use Rattle.asm_faults.specs.Bodies.{body_faults}
 use Rattle.asm_faults.specs.Missing.{missing_faults}
 use Rattle.asm_faults.specs.Calls.{call_faults, read_faults}
 use Rattle.asm_faults.specs.Ranges.{range_faults}
-use Rattle.asm_faults.specs.Model.{IsNumbering, machine_of}
-use Rattle.asm_resolve.specs.declared.error.ModelError.{ModelError}
-use Rattle.asm_resolve.specs.declared.error.ModelError.TheVariants.{Fault, Memory}
-
--- the machine is the model that the files are, where different variables have different numbers
-pub record IsModelOf (units : List LoadedUnit) (m : Machine) : Type 0 where
-  pub number : Name → ℕ
-  pub is_numbering : IsNumbering number
-  pub machine_is : m ≡ machine_of number units
+use Rattle.asm_faults.specs.declared.error.ModelError.{ModelError}
+use Rattle.asm_faults.specs.declared.error.ModelError.TheVariants.{Fault, Memory}
 
 -- the number among the sources of the file of a unit
 abbrev pub file_of : List LoadedUnit → ℕ → ℕ

@@ -5,10 +5,9 @@ ghost use Rattle.asm_faults.specs.Calls.{call_faults, read_faults};
 ghost use Rattle.asm_faults.specs.FunctionFaults.{signature_of};
 ghost use Rattle.asm_resolve.specs.Resolved.{Tells, told_of, declaration_faults, use_faults, reach_faults};
 
-use crate::error::ModelError;
 use asm_calls::{calls, reads};
 use asm_declare::{domains, names};
-use asm_faults::{Fault, First, Known};
+use asm_faults::{Fault, First, Known, ModelError};
 use asm_ranges::ranges;
 use asm_sign::Signature;
 use asm_source::Place;

@@ -7,13 +7,13 @@ ghost use Rattle.asm_build.specs.Assembled.{IsMachineOf};
 ghost use Rattle.asm_faults.specs.First.{first_fault};
 ghost use Rattle.asm_faults.specs.FunctionFaults.{domains_of, signature_of};
 ghost use Rattle.asm_faults.specs.Check.{model_fault};
-ghost use Rattle.asm_resolve.specs.Resolved.{IsModelOf, Tells, use_faults};
+ghost use Rattle.asm_faults.specs.Model.{IsModelOf};
+ghost use Rattle.asm_resolve.specs.Resolved.{Tells, use_faults};
 
-use crate::error::ModelError;
 use crate::passes::{settle, uses};
 use crate::signature::signature_in;
 use asm_build::{Parts, parts as make_parts};
-use asm_faults::{First, Known};
+use asm_faults::{First, Known, ModelError};
 use asm_node::Model;
 use asm_sign::Signature;
 use asm_sound::checked_is_well_formed;

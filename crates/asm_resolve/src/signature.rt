@@ -5,10 +5,9 @@ ghost use Rattle.asm_faults.specs.First.{first_fault};
 ghost use Rattle.asm_faults.specs.FunctionFaults.{domains_of, signature_of, function_faults};
 ghost use Rattle.asm_resolve.specs.Resolved.{Tells, declaration_faults, signature_faults};
 
-use crate::error::ModelError;
 use crate::passes::{declarations, settle};
 use asm_declare::{domain_list, function_list, functions};
-use asm_faults::First;
+use asm_faults::{First, ModelError};
 use asm_sign::{Domains, Functions, Signature};
 use asm_tree::unit::Units;
 use std::alloc::{AllocError, Global};

@@ -13,7 +13,7 @@ use Rattle.asm_node.specs.WellFormed.{IsCondition, IsRule}
 use Rattle.asm_tree.specs.declared.rule.RawRule.{RawRule}
 use Rattle.asm_tree.specs.declared.term.RawTerm.{RawTerm}
 use Rattle.asm_tree.specs.declared.unit.LoadedUnit.{LoadedUnit}
-use Rattle.asm_resolve.specs.declared.error.ModelError.{ModelError}
+use Rattle.asm_faults.specs.declared.error.ModelError.{ModelError}
 use Rattle.asm_script.specs.Script.{AreFilesOf, IsConditionOf, IsRuleOf, condition_fault, rule_fault}
 use Rattle.asm_script.proofs.Sound.{condition_sound, rule_sound}
 

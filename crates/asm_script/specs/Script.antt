@@ -22,9 +22,9 @@ use Rattle.asm_faults.specs.Model.{IsNumbering, rule_of, tree_of}
 use Rattle.asm_faults.specs.Ranges as ranges
 use Rattle.asm_faults.specs.Ranges.{measured}
 use Rattle.asm_faults.specs.Terms.{asked, judged}
-use Rattle.asm_resolve.specs.declared.error.ModelError.{ModelError}
-use Rattle.asm_resolve.specs.declared.error.ModelError.TheVariants.{Fault, Memory}
-use Rattle.asm_resolve.specs.Resolved.{IsModelOf}
+use Rattle.asm_faults.specs.declared.error.ModelError.{ModelError}
+use Rattle.asm_faults.specs.declared.error.ModelError.TheVariants.{Fault, Memory}
+use Rattle.asm_faults.specs.Model.{IsModelOf}
 
 -- the model is that of these files, in which nothing is wrong
 pub record AreFilesOf (units : List LoadedUnit) (m : Machine) : Type 0 where

@@ -10,10 +10,9 @@ ghost use Rattle.asm_script.specs.Script.{IsConditionOf, Tells, condition_fault}
 
 use crate::telling::settle;
 use asm_build::{Maker, term as make_term};
-use asm_faults::{First, Known};
+use asm_faults::{First, Known, ModelError};
 use asm_node::{Term, TermType};
 use asm_ranges::{Intervals, Scope as Spreads, term as bounding};
-use asm_resolve::ModelError;
 use asm_tree::term::RawTerm;
 use asm_typing::{Scope, term as typing};
 use std::alloc::{AllocError, Global};

@@ -8,8 +8,8 @@ ghost use Rattle.asm_tree.specs.declared.unit.LoadedUnit.{LoadedUnit};
 ghost use Rattle.asm_script.specs.Script.{AreFilesOf, IsConditionOf, IsRuleOf, Tells, condition_fault, rule_fault};
 
 use crate::script::Script;
+use asm_faults::ModelError;
 use asm_node::{Model, Rule, Term};
-use asm_resolve::ModelError;
 use asm_tree::rule::RawRule;
 use asm_tree::term::RawTerm;
 use std::alloc::Global;

@@ -10,10 +10,9 @@ ghost use Rattle.asm_script.specs.Tables.{fault_among};
 
 use crate::telling::settle;
 use asm_build::{Maker, rule as make_rule};
-use asm_faults::{First, Known};
+use asm_faults::{First, Known, ModelError};
 use asm_node::Rule;
 use asm_ranges::{Intervals, Scope as Spreads, rule as bounding};
-use asm_resolve::ModelError;
 use asm_tree::rule::RawRule;
 use asm_typing::{Heads, Scope, rule as typing};
 use name_table::Table;

@@ -10,8 +10,8 @@ ghost use Rattle.asm_script.specs.Script.{AreFilesOf, IsConditionOf, IsRuleOf, T
 use crate::conditions::condition_of;
 use crate::rules::rule_of;
 use crate::tables::{Callees, Words, callees_of, words_of};
+use asm_faults::ModelError;
 use asm_node::{Model, Rule, Term};
-use asm_resolve::ModelError;
 use asm_tree::rule::RawRule;
 use asm_tree::term::RawTerm;
 use std::alloc::{AllocError, Global};
@@ -29,7 +29,7 @@ pub struct Script<'m> {
 impl<'m> std::marker::Model for Script<'m> {
     ghost use Rattle.asm_node.specs.Machine.{Machine};
     ghost use Rattle.asm_node.specs.Model.{machine_of};
-    ghost use Rattle.asm_run.specs.Codes.{machine_code};
+    ghost use Rattle.asm_node.specs.Codes.{machine_code};
     ghost use Rattle.asm_script.specs.Tables.{AreTablesOf};
 
     ghost Value = { Machine };

@@ -2,8 +2,7 @@
 ghost use Rattle.std.specs.Prelude.{◌≡◌, None, OnOk, IfErr};
 ghost use Rattle.asm_script.specs.Script.{Tells, told_in};
 
-use asm_faults::{Fault, First};
-use asm_resolve::ModelError;
+use asm_faults::{Fault, First, ModelError};
 use asm_source::Place;
 
 /// Refuses what something is wrong with, in the file of this number.

@@ -5,8 +5,8 @@ use Rattle.std.specs.declared.alloc.Global.{Global}
 use Rattle.std.specs.declared.rc.Rc.{Rc}
 use Rattle.asm_node.specs.Machine.{Machine}
 use Rattle.asm_node.proofs.Formed.{all_at}
-use Rattle.avalla_play.specs.declared.command.Command.{Command}
-use Rattle.avalla_play.specs.Acts.{IsAct, act_of, acts_of}
+use Rattle.avalla_command.specs.declared.command.Command.{Command}
+use Rattle.avalla_command.specs.Acts.{IsAct, act_of, acts_of}
 
 -- the first of the commands that are left
 pub acts-cut : (commands : List (Rc Command Global)) (k : ℕ) (x : Rc Command Global) → k < length commands → x ≡ get_or commands k x → drop k (acts_of commands) ≡ act_of x.value ∷ drop (k + 1) (acts_of commands)

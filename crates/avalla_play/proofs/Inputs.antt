@@ -8,7 +8,7 @@ use Rattle.asm_sign.specs.Vocabulary.{Vocabulary, function_at}
 use Rattle.asm_node.specs.Machine.{Machine, Input, has_kind, is_monitored, is_shared}
 use Rattle.asm_node.specs.Step.{IsInput, may_have}
 use Rattle.asm_node.specs.Values.{is_undef}
-use Rattle.avalla_play.specs.Acts.{MayBeSet}
+use Rattle.avalla_command.specs.Acts.{MayBeSet}
 use Rattle.avalla_play.specs.Moves.{kept}
 
 of_kept : (b : Truth) (o : Option Value) (v : Value) → cond b o None ≡ Some v → o ≡ Some v

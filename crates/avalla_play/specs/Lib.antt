@@ -1,4 +1,3 @@
-pub mod Acts
 pub mod Moves
 pub mod Printed
 pub mod Standing

@@ -17,7 +17,7 @@ use Rattle.asm_run.specs.Printed.{numbered_state}
 use Rattle.asm_text.specs.Texts.{line, stop_line}
 use Rattle.avalla_play.specs.declared.playing.Played.{Played}
 use Rattle.avalla_play.specs.declared.playing.Played.TheVariants.{CheckFailed, Stopped, Budget}
-use Rattle.avalla_play.specs.Acts.{Act, Sets, Steps, StepsUntil, Checks, Executes}
+use Rattle.avalla_command.specs.Acts.{Act, Sets, Steps, StepsUntil, Checks, Executes}
 
 -- where a play stands: the state and its number, the pending input, the choice words that are left, and how many checks have passed
 pub record Point : Type 0 where

@@ -8,7 +8,7 @@ use Rattle.asm_run.specs.Printed.{numbered_state}
 use Rattle.asm_text.specs.Texts.{line, stop_line}
 use Rattle.avalla_play.specs.declared.playing.Played.{Played}
 use Rattle.avalla_play.specs.declared.playing.Played.TheVariants.{Passed, Stopped}
-use Rattle.avalla_play.specs.Acts.{Act}
+use Rattle.avalla_command.specs.Acts.{Act}
 use Rattle.avalla_play.specs.Moves.{Point, Move, after, then_move, unless_broken, all_acted}
 
 -- a text, and how the play ends that it tells of

@@ -4,12 +4,11 @@ ghost use Rattle.asm_io.specs.Writes.{Writes};
 ghost use Rattle.asm_node.specs.Model.{machine_of};
 ghost use Rattle.asm_node.specs.Words.{left};
 ghost use Rattle.asm_run.specs.declared.error.OutError.TheVariants.{Write};
-ghost use Rattle.avalla_play.specs.Acts.{IsAct, act_of, acts_of};
+ghost use Rattle.avalla_command.specs.Acts.{IsAct, act_of, acts_of};
 ghost use Rattle.avalla_play.specs.Moves.{acted, all_acted};
 ghost use Rattle.avalla_play.specs.Standing.{IsReady, Lands, point_of};
 
 use crate::checking::check;
-use crate::command::Command;
 use crate::context::Context;
 use crate::playing::Played;
 use crate::stage::{Stage, set_value};
@@ -18,6 +17,7 @@ use crate::until::step_until;
 use asm_io::Sink;
 use asm_node::Words;
 use asm_run::OutError;
+use avalla_command::Command;
 use std::rc::Rc;
 
 /// Does all commands in their order, up to the end of the play.

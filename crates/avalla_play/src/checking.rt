@@ -6,7 +6,7 @@ ghost use Rattle.asm_node.specs.Tree.{plain};
 ghost use Rattle.asm_node.specs.WellFormed.{IsCondition};
 ghost use Rattle.asm_run.specs.declared.error.OutError.TheVariants.{Write};
 ghost use Rattle.asm_text.specs.Texts.{line};
-ghost use Rattle.avalla_play.specs.Acts.{Checks};
+ghost use Rattle.avalla_command.specs.Acts.{Checks};
 ghost use Rattle.avalla_play.specs.Moves.{acted, check_line};
 ghost use Rattle.avalla_play.specs.Standing.{IsReady, Lands, point_of};
 

@@ -3,7 +3,6 @@
 
 mod acting;
 mod checking;
-mod command;
 mod context;
 mod judging;
 mod lines;
@@ -13,5 +12,5 @@ mod stepping;
 mod telling;
 mod until;
 
-pub use command::{Command, Play};
+pub use avalla_command::{Command, Play};
 pub use playing::{Played, play};

@@ -5,13 +5,12 @@ ghost use Rattle.asm_node.specs.Model.{machine_of};
 ghost use Rattle.asm_node.specs.Words.{left};
 ghost use Rattle.asm_run.specs.declared.error.OutError.TheVariants.{Write};
 ghost use Rattle.asm_text.specs.Texts.{line};
-ghost use Rattle.avalla_play.specs.Acts.{IsAct, acts_of};
+ghost use Rattle.avalla_command.specs.Acts.{IsAct, acts_of};
 ghost use Rattle.avalla_play.specs.Moves.{all_acted};
 ghost use Rattle.avalla_play.specs.Printed.{finished, first_point, from_start, play_of};
 ghost use Rattle.avalla_play.specs.Standing.{IsReady, point_of};
 
 use crate::acting::act_all;
-use crate::command::{Command, Play};
 use crate::context::Context;
 use crate::stage::Stage;
 use crate::telling::tell_state;
@@ -19,6 +18,7 @@ use asm_eval::InitError;
 use asm_io::{Sink, Sources, write_text};
 use asm_node::{Input, Model, Stop, Words};
 use asm_run::{OutError, Session, print_stop};
+use avalla_command::{Command, Play};
 use std::alloc::Global;
 use std::rc::Rc;
 

@@ -5,8 +5,8 @@ use Rattle.std.specs.declared.rc.Rc.{Rc}
 use Rattle.std.specs.declared.alloc.Global.{Global}
 use Rattle.std.proofs.lemmas.List.{map-append, drop-append-le, length-take-le}
 use Rattle.std.proofs.lemmas.Option.{slice_get-map}
-use Rattle.avalla_play.specs.declared.command.Command.{Command}
-use Rattle.avalla_play.specs.Acts.{Act, act_of, acts_of}
+use Rattle.avalla_command.specs.declared.command.Command.{Command}
+use Rattle.avalla_command.specs.Acts.{Act, act_of, acts_of}
 use Rattle.avalla_prepare.specs.Parts.{at_place}
 
 module _ (order : List (Rc Command Global)) (place : ℕ) where

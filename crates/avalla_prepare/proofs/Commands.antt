@@ -6,7 +6,7 @@ use Rattle.asm_tree.specs.declared.script.RawSet.{RawSet}
 use Rattle.asm_bind.specs.Given.{given_or_name}
 use Rattle.asm_bind.proofs.Asked.{given_is}
 use Rattle.asm_bind.proofs.Listing.{pair_given}
-use Rattle.avalla_play.specs.Acts.{MayBeSet}
+use Rattle.avalla_command.specs.Acts.{MayBeSet}
 
 -- a setting gives what an input may give
 pub may_be_set : (m : Machine) (set : RawSet) (slot : ℕ) (v : Value) → given_or_name m.signature set ≡ Ok (slot, v) → MayBeSet m slot v

@@ -12,7 +12,7 @@ use Rattle.asm_node.specs.Machine.{Machine}
 use Rattle.asm_tree.specs.declared.script.RawCommand.{RawCommand}
 use Rattle.asm_tree.specs.declared.script.RawScenarioCommand.{RawScenarioCommand}
 use Rattle.asm_tree.specs.declared.script.RawScenarioCommand.TheVariants as scenario
-use Rattle.avalla_play.specs.Acts.{Act, IsAct}
+use Rattle.avalla_command.specs.Acts.{Act, IsAct}
 use Rattle.avalla_prepare.specs.Parts.{ArePlaced, Grows, IsPart, IsPlaced, ended_by, latest_by, met_by}
 use Rattle.avalla_prepare.specs.Prepared.{AreActsOf, command_faults}
 use Rattle.avalla_prepare.specs.Scenario.{Block, all_unfolded, block_named, met_after, unfolded, written_in}

@@ -4,15 +4,15 @@ use Rattle.std.specs.List.{flat_map}
 use Rattle.asm_source.specs.declared.sources.Place.{Place}
 use Rattle.asm_faults.specs.At.{Name}
 use Rattle.asm_node.specs.Machine.{Machine}
-use Rattle.asm_resolve.specs.declared.error.ModelError.{ModelError}
-use Rattle.asm_resolve.specs.declared.error.ModelError.TheVariants as failure
+use Rattle.asm_faults.specs.declared.error.ModelError.{ModelError}
+use Rattle.asm_faults.specs.declared.error.ModelError.TheVariants as failure
 use Rattle.asm_script.specs.Script.{AreFilesOf}
 use Rattle.asm_tree.specs.declared.script.RawCommand.{RawCommand}
 use Rattle.asm_tree.specs.declared.script.RawScenarioCommand.{RawScenarioCommand}
 use Rattle.asm_tree.specs.declared.script.RawScenarioCommand.TheVariants as scenario
 use Rattle.asm_tree.specs.declared.term.RawName.{RawName}
 use Rattle.asm_tree.specs.declared.unit.LoadedUnit.{LoadedUnit}
-use Rattle.avalla_play.specs.Acts.{Act, IsAct}
+use Rattle.avalla_command.specs.Acts.{Act, IsAct}
 use Rattle.avalla_prepare.specs.declared.blocks.Ended.{Ended}
 use Rattle.avalla_prepare.specs.declared.error.ScenarioError.{ScenarioError}
 use Rattle.avalla_prepare.specs.declared.error.ScenarioError.TheVariants.{NoBlock, BadSet, Model, TooLong, Memory}

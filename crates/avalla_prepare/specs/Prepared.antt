@@ -16,7 +16,7 @@ use Rattle.asm_tree.specs.declared.term.RawName.{RawName}
 use Rattle.asm_faults.specs.declared.fault.Fault.{Fault}
 use Rattle.asm_bind.specs.Given.{given_or_name}
 use Rattle.asm_script.specs.Script.{IsConditionOf, IsRuleOf, condition_fault, rule_fault, told_in}
-use Rattle.avalla_play.specs.Acts.{Act, Sets, Steps, StepsUntil, Checks, Executes}
+use Rattle.avalla_command.specs.Acts.{Act, Sets, Steps, StepsUntil, Checks, Executes}
 use Rattle.avalla_prepare.specs.Scenario.{commands_written, first_of, is_too_long, missing_block}
 use Rattle.avalla_prepare.specs.declared.error.ScenarioError.{ScenarioError}
 use Rattle.avalla_prepare.specs.declared.error.ScenarioError.TheVariants.{NoBlock, BadSet, Model, TooLong, Memory}

@@ -1,8 +1,8 @@
 ghost use Rattle.std.specs.Prelude.{◌≡◌};
 ghost use Rattle.avalla_prepare.specs.declared.error.ScenarioError.TheVariants.{Memory};
 
+use asm_faults::ModelError;
 use asm_list::Name;
-use asm_resolve::ModelError;
 use asm_source::Place;
 use std::alloc::AllocError;
 

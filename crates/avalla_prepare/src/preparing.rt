@@ -3,7 +3,7 @@ ghost use Rattle.std.specs.Prelude.{◌≡◌, ◌≤◌, All, List, None, IfOk,
 ghost use Rattle.asm_node.specs.Model.{machine_of};
 ghost use Rattle.asm_script.specs.Script.{AreFilesOf};
 ghost use Rattle.asm_tree.specs.declared.unit.LoadedUnit.{LoadedUnit};
-ghost use Rattle.avalla_play.specs.Acts.{IsAct, acts_of};
+ghost use Rattle.avalla_command.specs.Acts.{IsAct, acts_of};
 ghost use Rattle.avalla_prepare.specs.Parts as spec;
 ghost use Rattle.avalla_prepare.specs.Prepared.{AreActsOf, Tells, place_of, scenario_fault};
 ghost use Rattle.avalla_prepare.specs.Scenario.{commands_met};
@@ -16,7 +16,7 @@ use asm_node::Model;
 use asm_source::Place;
 use asm_tree::script::RawScenario;
 use asm_tree::term::RawName;
-use avalla_play::Play;
+use avalla_command::Play;
 use std::alloc::Global;
 
 /// The commands of a scenario over a model, where blocks are replaced by their commands; or what is wrong with the scenario

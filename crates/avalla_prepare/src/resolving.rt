@@ -5,7 +5,7 @@ ghost use Rattle.asm_node.specs.Tree.{plain};
 ghost use Rattle.asm_node.specs.WellFormed.{IsCondition, IsRule};
 ghost use Rattle.asm_tree.specs.declared.unit.LoadedUnit.{LoadedUnit};
 ghost use Rattle.asm_script.specs.Script.{AreFilesOf, IsConditionOf, IsRuleOf, condition_fault, rule_fault};
-ghost use Rattle.avalla_play.specs.Acts.{IsAct, act_of};
+ghost use Rattle.avalla_command.specs.Acts.{IsAct, act_of};
 ghost use Rattle.avalla_prepare.specs.Prepared.{IsSetting, Tells, model_faults, set_faults};
 ghost use Rattle.avalla_prepare.specs.Parts as spec;
 ghost use Rattle.avalla_prepare.specs.Scenario.{first_of};
@@ -13,14 +13,14 @@ ghost use Rattle.asm_bind.specs.Given.{given_or_name};
 
 use crate::error::ScenarioError;
 use asm_bind::{BadSet, Settable};
+use asm_faults::ModelError;
 use asm_node::{Rule, Term};
-use asm_resolve::ModelError;
 use asm_script::Script;
 use asm_source::Place;
 use asm_tree::rule::RawRule;
 use asm_tree::script::RawSet;
 use asm_tree::term::RawTerm;
-use avalla_play::Command;
+use avalla_command::Command;
 use std::alloc::Global;
 use std::rc::Rc;
 

@@ -2,7 +2,7 @@
 ghost use Rattle.std.specs.Prelude.{◌≡◌, ◌≤◌, ◌++◌, ◌∷◌, [], List, length, take, drop, IfOk, OnOk, IfErr};
 ghost use Rattle.std.specs.List.{flat_map};
 ghost use Rattle.asm_node.specs.Model.{machine_of};
-ghost use Rattle.avalla_play.specs.Acts.{act_of, acts_of};
+ghost use Rattle.avalla_command.specs.Acts.{act_of, acts_of};
 ghost use Rattle.avalla_prepare.specs.Parts as spec;
 ghost use Rattle.avalla_prepare.specs.Parts.{ArePlaced, Grows};
 ghost use Rattle.avalla_prepare.specs.Prepared.{Tells, command_faults};
@@ -17,7 +17,7 @@ use asm_list::Listed;
 use asm_node::Model;
 use asm_script::Script;
 use asm_tree::script::{RawCommand, RawScenarioCommand};
-use avalla_play::{Command, Play};
+use avalla_command::{Command, Play};
 use std::alloc::{AllocError, Global};
 use std::rc::Rc;
 

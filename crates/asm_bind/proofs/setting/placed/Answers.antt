@@ -2,7 +2,7 @@ use Rattle.std.proofs.Common.{rules, ◌≡◌, ◌∙◌, ℕ, Option, Some, No
 use Rattle.std.specs.Option.{option_map}
 use Rattle.asm_domain.specs.declared.value.Value.{Value}
 use Rattle.asm_node.specs.Machine.{slot_at}
-use Rattle.asm_eval.proofs.Locations.{slot_is}
+use Rattle.asm_node.proofs.Slots.{slot_is}
 use Rattle.asm_bind.specs.Given.{and_then}
 use Rattle.asm_bind.proofs.setting.placed.Goals as goal
 

@@ -1,6 +1,6 @@
 use Rattle.std.proofs.Common.{subst}
 use Rattle.asm_faults.specs.Check.{model_fault}
-use Rattle.asm_resolve.specs.declared.error.ModelError.{ModelError}
+use Rattle.asm_faults.specs.declared.error.ModelError.{ModelError}
 use Rattle.asm_resolve.specs.Resolved.{Tells}
 use Rattle.asm_cli.proofs.Checking.{faultless_said, fault_said}
 use Rattle.asm_cli.proofs.check.check_units.Goals as goal

@@ -1,6 +1,6 @@
 use Rattle.std.proofs.Common.{subst, refl, arith}
 use Rattle.asm_faults.specs.Check.{model_fault}
-use Rattle.asm_resolve.specs.declared.error.ModelError.{ModelError}
+use Rattle.asm_faults.specs.declared.error.ModelError.{ModelError}
 use Rattle.asm_resolve.specs.Resolved.{Tells}
 use Rattle.asm_cli.specs.Words.{plan_seen}
 use Rattle.asm_cli.proofs.Serving.{sound_served, fault_served}

@@ -3,7 +3,8 @@ use Rattle.asm_node.specs.Machine.{slot_at}
 use Rattle.asm_node.specs.Model.{machine_of}
 use Rattle.asm_eval.specs.Answer.{Answers}
 use Rattle.asm_eval.specs.World.{world_in}
-use Rattle.asm_eval.proofs.Locations.{slot_is, kept_value, asked_value, absent_value}
+use Rattle.asm_node.proofs.Slots.{slot_is}
+use Rattle.asm_eval.proofs.Locations.{kept_value, asked_value, absent_value}
 use Rattle.asm_eval.proofs.location.location_value.Goals as goal
 
 pub returns-then-is_kept : goal.returns-then-is_kept

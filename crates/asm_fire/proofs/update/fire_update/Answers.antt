@@ -8,7 +8,7 @@ use Rattle.asm_node.specs.Taking.{evaluated, update, valued}
 use Rattle.asm_node.specs.Term.{Outcome, val}
 use Rattle.asm_node.specs.Tree.{plain}
 use Rattle.asm_eval.specs.World.{world_in}
-use Rattle.asm_eval.proofs.Locations.{slot_is}
+use Rattle.asm_node.proofs.Slots.{slot_is}
 use Rattle.asm_fire.specs.Answer.{Fires, Halts}
 use Rattle.asm_fire.specs.Fault.{fire_error}
 use Rattle.asm_fire.proofs.Firing.{halts-evaluated, update-is}

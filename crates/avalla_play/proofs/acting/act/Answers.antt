@@ -5,7 +5,7 @@ use Rattle.asm_node.specs.Model.{machine_of}
 use Rattle.asm_node.specs.Words.{left}
 use Rattle.asm_run.specs.declared.error.OutError.TheVariants.{Write}
 use Rattle.avalla_play.specs.declared.stage.Stage.{Stage}
-use Rattle.avalla_play.specs.Acts.{Act, IsAct, act_of}
+use Rattle.avalla_command.specs.Acts.{Act, IsAct, act_of}
 use Rattle.avalla_play.specs.Moves.{Point, acted}
 use Rattle.avalla_play.specs.Standing.{IsReady, Lands, point_of}
 use Rattle.avalla_play.proofs.Inputs.{set-is_input}

@@ -4,9 +4,9 @@ use Rattle.asm_io.proofs.Printing.{front_none}
 use Rattle.asm_node.specs.Model.{machine_of}
 use Rattle.asm_node.specs.Words.{left}
 use Rattle.asm_run.proofs.Runs.{stopped, went_on, written_all}
-use Rattle.avalla_play.specs.declared.command.Command.{Command}
+use Rattle.avalla_command.specs.declared.command.Command.{Command}
 use Rattle.avalla_play.specs.declared.stage.Stage.{Stage}
-use Rattle.avalla_play.specs.Acts.{Act, IsAct, act_of, acts_of}
+use Rattle.avalla_command.specs.Acts.{Act, IsAct, act_of, acts_of}
 use Rattle.avalla_play.specs.Moves.{Move, Point, acted, all_acted, onward}
 use Rattle.avalla_play.specs.Standing.{Lands, point_of}
 use Rattle.avalla_play.proofs.Commands.{act-at, acts-cut, acts-none}

@@ -2,7 +2,7 @@ use Rattle.std.proofs.Common.{◌≡◌, ◌≤◌, drop}
 use Rattle.asm_io.specs.Writes.{WritesFront}
 use Rattle.asm_node.specs.Model.{machine_of}
 use Rattle.asm_node.specs.Words.{left}
-use Rattle.avalla_play.specs.Acts.{acts_of}
+use Rattle.avalla_command.specs.Acts.{acts_of}
 use Rattle.avalla_play.specs.Moves.{all_acted}
 use Rattle.avalla_play.specs.Standing.{IsReady, point_of}
 use Rattle.avalla_play.proofs.acting.act_all.Given as goal

@@ -8,7 +8,7 @@ use Rattle.asm_node.specs.Tree.{plain}
 use Rattle.asm_run.proofs.Runs.{one-written}
 use Rattle.avalla_play.specs.declared.playing.Played.TheVariants.{Stopped}
 use Rattle.avalla_play.specs.declared.stage.Stage.{Stage}
-use Rattle.avalla_play.specs.Acts.{Checks}
+use Rattle.avalla_command.specs.Acts.{Checks}
 use Rattle.avalla_play.specs.Moves.{Move, acted, checked, worth}
 use Rattle.avalla_play.specs.Standing.{IsReady, Lands, point_of, said}
 use Rattle.avalla_play.proofs.Landing.{judged-is}

@@ -14,9 +14,9 @@ use Rattle.asm_node.specs.Words.{left}
 use Rattle.asm_run.specs.declared.error.OutError.TheVariants.{Write}
 use Rattle.asm_run.proofs.Runs.{one-written}
 use Rattle.asm_text.specs.Texts.{stop_line}
-use Rattle.avalla_play.specs.declared.command.Command.{Command}
+use Rattle.avalla_command.specs.declared.command.Command.{Command}
 use Rattle.avalla_play.specs.declared.playing.Played.TheVariants.{Stopped}
-use Rattle.avalla_play.specs.Acts.{IsAct, acts_of}
+use Rattle.avalla_command.specs.Acts.{IsAct, acts_of}
 use Rattle.avalla_play.specs.Printed.{Printed, begun, finished, first_point, from_start, play_of}
 use Rattle.avalla_play.proofs.Beginning.{same-stop}
 use Rattle.avalla_play.proofs.Writing.{one-stopped}

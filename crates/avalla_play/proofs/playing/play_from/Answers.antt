@@ -8,7 +8,7 @@ use Rattle.asm_run.specs.Printed.{numbered_state}
 use Rattle.asm_run.proofs.Runs.{one-written}
 use Rattle.asm_run.proofs.Truths.{no_input-is}
 use Rattle.avalla_play.specs.declared.playing.Played.{Played}
-use Rattle.avalla_play.specs.Acts.{acts_of}
+use Rattle.avalla_command.specs.Acts.{acts_of}
 use Rattle.avalla_play.specs.Moves.{Move, Point, all_acted}
 use Rattle.avalla_play.specs.Printed.{finished, first_point}
 use Rattle.avalla_play.specs.Standing.{told}

@@ -5,7 +5,7 @@ use Rattle.asm_node.specs.Model.{machine_of}
 use Rattle.asm_node.specs.Words.{left}
 use Rattle.asm_run.proofs.Runs.{both-written, one-written, second-stopped}
 use Rattle.asm_text.specs.Texts.{line}
-use Rattle.avalla_play.specs.Acts.{acts_of}
+use Rattle.avalla_command.specs.Acts.{acts_of}
 use Rattle.avalla_play.specs.Moves.{Move, all_acted}
 use Rattle.avalla_play.specs.Printed.{passed_unless}
 use Rattle.avalla_play.specs.Standing.{point_of}

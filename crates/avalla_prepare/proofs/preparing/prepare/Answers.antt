@@ -2,7 +2,7 @@ use Rattle.std.proofs.Common.{[], length, ap, arith}
 use Rattle.std.proofs.lemmas.List.{length-map}
 use Rattle.std.proofs.lemmas.List.Elements.{All-nil, All-same}
 use Rattle.asm_node.specs.Model.{machine_of}
-use Rattle.avalla_play.specs.Acts.{IsAct, act_of, acts_of}
+use Rattle.avalla_command.specs.Acts.{IsAct, act_of, acts_of}
 use Rattle.avalla_prepare.specs.Scenario.{met_after}
 use Rattle.avalla_prepare.proofs.Growing.{as_many}
 use Rattle.avalla_prepare.proofs.preparing.prepare.Goals as goal

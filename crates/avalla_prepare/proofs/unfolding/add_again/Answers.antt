@@ -1,4 +1,4 @@
-use Rattle.avalla_play.specs.Acts.{acts_of}
+use Rattle.avalla_command.specs.Acts.{acts_of}
 use Rattle.avalla_prepare.proofs.Adding.{again_next}
 use Rattle.avalla_prepare.proofs.unfolding.add_again.Goals as goal
 

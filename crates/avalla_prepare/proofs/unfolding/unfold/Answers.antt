@@ -1,5 +1,5 @@
 use Rattle.std.proofs.Common.{sym, subst}
-use Rattle.avalla_play.specs.Acts.{acts_of}
+use Rattle.avalla_command.specs.Acts.{acts_of}
 use Rattle.avalla_prepare.specs.Parts.{Grows, IsPlaced}
 use Rattle.avalla_prepare.specs.Scenario.{block_named, unfolded}
 use Rattle.avalla_prepare.proofs.Growing.{grows_missing}

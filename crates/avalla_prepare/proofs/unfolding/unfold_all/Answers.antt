@@ -1,6 +1,6 @@
 use Rattle.std.proofs.Common.{◌∙◌, ◌+◌, ◌++◌, drop, take, refl, sym, ap}
 use Rattle.std.specs.List.{flat_map}
-use Rattle.avalla_play.specs.Acts.{acts_of}
+use Rattle.avalla_command.specs.Acts.{acts_of}
 use Rattle.avalla_prepare.specs.Parts.{latest}
 use Rattle.avalla_prepare.specs.Prepared.{command_faults}
 use Rattle.avalla_prepare.specs.Scenario.{all_unfolded, unfolded}

@@ -1,6 +1,6 @@
 use Rattle.std.proofs.Common.{◌≡◌, List, take, drop}
 use Rattle.std.specs.List.{flat_map}
-use Rattle.avalla_play.specs.Acts.{acts_of}
+use Rattle.avalla_command.specs.Acts.{acts_of}
 use Rattle.avalla_prepare.specs.Parts.{ArePlaced, Grows, latest}
 use Rattle.avalla_prepare.specs.Prepared.{command_faults}
 use Rattle.avalla_prepare.specs.Scenario.{Block, all_unfolded}

@@ -1,6 +1,6 @@
 use Rattle.std.proofs.Common.{◌≡◌, ◌∙◌, length, sym, ap, subst}
 use Rattle.std.proofs.lemmas.List.{length-map}
-use Rattle.avalla_play.specs.Acts.{act_of, acts_of}
+use Rattle.avalla_command.specs.Acts.{act_of, acts_of}
 use Rattle.avalla_prepare.specs.Parts.{ArePlaced, latest, latest_by}
 use Rattle.avalla_prepare.proofs.Growing.{unfold_goes, unfolds_none}
 use Rattle.avalla_prepare.proofs.unfolding.unfold_scenario.Goals as goal

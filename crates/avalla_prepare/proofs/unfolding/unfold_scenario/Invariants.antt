@@ -1,4 +1,4 @@
-use Rattle.avalla_play.specs.Acts.{acts_of}
+use Rattle.avalla_command.specs.Acts.{acts_of}
 use Rattle.avalla_prepare.specs.Parts.{latest}
 use Rattle.avalla_prepare.proofs.Growing.{Unfolds}
 use Rattle.avalla_prepare.proofs.unfolding.unfold_scenario.Given as goal

@@ -1,7 +1,7 @@
 ghost use Rattle.std.specs.Prelude.{◌≡◌};
-ghost use Rattle.asm_resolve.specs.declared.error.ModelError.TheVariants.{Memory};
+ghost use Rattle.asm_faults.specs.declared.error.ModelError.TheVariants.{Memory};
 
-use asm_faults::ModelFault;
+use crate::ModelFault;
 use asm_list::Name;
 use asm_source::Place;
 use std::alloc::AllocError;

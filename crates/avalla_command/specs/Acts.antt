@@ -10,8 +10,8 @@ use Rattle.asm_node.specs.Step.{may_have}
 use Rattle.asm_node.specs.Tree.{Tree, plain}
 use Rattle.asm_node.specs.Values.{is_undef}
 use Rattle.asm_node.specs.WellFormed.{IsCondition, IsRule}
-use Rattle.avalla_play.specs.declared.command.Command.{Command}
-use Rattle.avalla_play.specs.declared.command.Command.TheVariants as command
+use Rattle.avalla_command.specs.declared.command.Command.{Command}
+use Rattle.avalla_command.specs.declared.command.Command.TheVariants as command
 
 -- what one command does: it gives a slot a value in the pending input, takes steps of the main rule, one or up to the first
 -- state in which a condition is true, checks a condition, or takes a step of a rule in place of the main rule

@@ -1,6 +1,6 @@
 use Rattle.std.proofs.Common.{◌≡◌, drop}
 use Rattle.asm_node.specs.Values.{are_arguments}
-use Rattle.asm_eval.proofs.element.are_arguments.Given as goal
+use Rattle.asm_node.proofs.element.are_arguments.Given as goal
 
 -- those so far are elements
 abbrev pub invariant-loop-place : goal.invariant-loop-place

@@ -6,8 +6,8 @@ use Rattle.asm_domain.specs.Universe.{elements}
 use Rattle.asm_sign.specs.declared.function.DeclaredDomain.{DeclaredDomain}
 use Rattle.asm_sign.specs.Arguments.{elements_of, elements_at}
 use Rattle.asm_node.specs.Values.{same, whole, is_whole, is_element}
-use Rattle.asm_eval.proofs.Elements.{ranked}
-use Rattle.asm_eval.proofs.element.is_element.Goals as goal
+use Rattle.asm_node.proofs.Elements.{ranked}
+use Rattle.asm_node.proofs.element.is_element.Goals as goal
 
 declared_element : (domains : List DeclaredDomain) (d : ℕ) (v : Value) (declared : DeclaredDomain) → (d ≡ whole → ⊥) → Some declared ≡ slice_get domains d → is_element domains d v ≡ list_any (λ w. same w v) (elements declared.domain)
 declared_element domains d v declared other is =

@@ -87,9 +87,9 @@ fn read_scenario(alloc: Global, text: &[u8], tokens: &[Token]) -> Result<RawScen
     }
 }
 
-/// The error where reading stopped.
+/// The error where reading stopped, which readers of other files take too.
 #[tactic(auto, using(asm_body::proofs::Parsing::stops))]
-fn explained(tokens: &[Lexeme], stop: Stop) -> ParseError
+pub fn explained(tokens: &[Lexeme], stop: Stop) -> ParseError
     requires counts { Counts (length tokens.now) stop }
     requires few { length tokens.now < 2 ^ 31 }
     ensures { result ≡ error_of (all_seen tokens.now) (length tokens.now) stop }

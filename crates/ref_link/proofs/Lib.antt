@@ -1,0 +1,4 @@
+mod Alike
+mod Begun
+mod Covering
+mod Reading

@@ -1,0 +1,6 @@
+pub mod Answering
+pub mod Linkable
+pub mod Linked
+pub mod Linking
+pub mod Refining
+pub mod Rows

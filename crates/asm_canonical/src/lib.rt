@@ -8,8 +8,6 @@ mod operator;
 mod print;
 mod rule;
 mod term;
-#[cfg(test)]
-mod tests;
 mod unit;
 
 pub use laws::{canonical_text, read_again};

@@ -5,8 +5,6 @@ mod domain;
 mod error;
 mod interval;
 mod refusal;
-#[cfg(test)]
-mod tests;
 mod value;
 
 pub use domain::{Domain, Names};

@@ -9,8 +9,6 @@ mod location;
 mod number;
 mod quantify;
 mod terms;
-#[cfg(test)]
-mod tests;
 mod truth;
 mod tuple;
 mod world;

@@ -3,4 +3,3 @@ pub mod Joining
 pub mod Keeping
 pub mod Single
 pub mod Sounding
-pub mod Tried

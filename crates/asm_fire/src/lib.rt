@@ -6,8 +6,6 @@ mod error;
 mod join;
 mod sound_law;
 mod taking;
-#[cfg(test)]
-mod tests;
 mod update;
 
 pub use error::FireError;

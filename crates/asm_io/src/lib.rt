@@ -26,6 +26,3 @@ pub use out::OutSink;
 pub use print::{write_both, write_text};
 pub use shelf::{ReadError, Shelf};
 pub use sink::{Sink, SinkError};
-
-#[cfg(test)]
-mod tests;

@@ -4,8 +4,6 @@
 mod cutting;
 mod error;
 mod piece;
-#[cfg(test)]
-mod tests;
 mod token;
 
 pub use cutting::lex;

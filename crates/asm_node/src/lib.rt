@@ -15,8 +15,6 @@ mod rule;
 mod stop;
 mod term;
 mod term_type;
-#[cfg(test)]
-mod tests;
 mod words;
 
 pub use choices::Choices;

@@ -4,8 +4,6 @@
 mod function;
 mod search;
 mod signature;
-#[cfg(test)]
-mod tests;
 mod tuple;
 
 pub use function::{DeclaredDomain, Domains, FunKind, Function, Functions};

@@ -7,6 +7,3 @@ mod text;
 pub use asm_list::{Listed, Name};
 pub use sources::{Place, Source, Sources, Spot};
 pub use text::{Text, append_integer, append_number, append_str};
-
-#[cfg(test)]
-mod tests;

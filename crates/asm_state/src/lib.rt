@@ -3,8 +3,6 @@
 
 mod map_store;
 mod store;
-#[cfg(test)]
-mod tests;
 
 pub use map_store::MapStore;
 pub use store::Store;

@@ -1,15 +1,13 @@
 -- Texts that are appended piece by piece.
-use Rattle.std.proofs.Common.{◌≡◌, ℕ, suc, ◌+◌, ◌-◌, ◌<◌, List, [], ◌∷◌, ◌++◌, length, get_or, drop, Option, Some, None, Result, Ok, refl, sym, ap, ◌∙◌, subst, append-nil, append_assoc, drop-cons, add-one, arith}
+use Rattle.std.proofs.Common.{◌≡◌, ℕ, suc, ◌+◌, ◌-◌, ◌<◌, List, [], ◌∷◌, ◌++◌, length, get_or, drop, Result, Ok, refl, sym, ap, ◌∙◌, subst, append-nil, append_assoc, drop-cons, add-one, arith}
 use Rattle.std.specs.Prelude.{IsErrAnd, map, codes}
 use Rattle.std.specs.List.{flat_map, range_with_len}
 use Rattle.std.proofs.lemmas.Result.{err_from_is_err_and}
 use Rattle.asm_domain.specs.declared.value.Value.{Value}
 use Rattle.asm_source.specs.Appends.{Appends, AppendsPart, AppendsFront}
 use Rattle.asm_source.proofs.Appending.{text_front_none, text_front_more, text_front_part}
-use Rattle.asm_node.specs.Machine.{State, has_kind}
-use Rattle.asm_sign.specs.Kind.{is_kept}
-use Rattle.asm_sign.specs.declared.function.Function.{Function}
-use Rattle.asm_sign.specs.Vocabulary.{Vocabulary, locations, kept_of}
+use Rattle.asm_node.specs.Machine.{State}
+use Rattle.asm_sign.specs.Vocabulary.{Vocabulary, locations}
 use Rattle.asm_text.specs.Texts.{joint, with_commas, value_text, kept_line, state_text}
 
 -- an error after a part
@@ -79,11 +77,6 @@ pub items_end : (v : Vocabulary) (xs : List Value) (n : ℕ) → n ≡ length xs
 items_end v xs n is = rw (is, nothing_left xs) refl
 
 -- ---- states
-
--- two ways to say that a state keeps the values of a function's locations
-pub kept_is : (f : Option Function) → has_kind is_kept f ≡ kept_of f
-kept_is None = refl
-kept_is (Some f) = refl
 
 slots_step : (f : ℕ → List ℕ) (slot count : ℕ) → slot < count → flat_map f (range_with_len slot (count - slot)) ≡ f slot ++ flat_map f (range_with_len (slot + 1) (count - (slot + 1)))
 slots_step f slot count lt =

@@ -5,8 +5,6 @@ mod location;
 mod place;
 mod state;
 mod stop;
-#[cfg(test)]
-mod tests;
 mod value;
 
 pub use location::print_location;

@@ -1,8 +1,6 @@
 //! The files of a model: their names, their imports, and what they spell.
 #![tactic(auto)]
 
-#[cfg(test)]
-mod body_tests;
 mod error;
 mod import;
 mod laws;
@@ -11,8 +9,6 @@ mod one;
 mod parse;
 mod path;
 mod spelled;
-#[cfg(test)]
-mod tests;
 mod whole;
 
 pub use error::LoadError;

@@ -4,8 +4,6 @@
 mod clash;
 mod order;
 mod place;
-#[cfg(test)]
-mod tests;
 mod updates;
 
 pub use updates::Updates;

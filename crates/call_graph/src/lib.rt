@@ -5,8 +5,6 @@ mod cycle;
 mod graph;
 mod laws;
 mod rows;
-#[cfg(test)]
-mod tests;
 
 pub use cycle::leads_to_itself;
 pub use graph::{Graph, Node};

@@ -3,7 +3,5 @@
 
 mod entries;
 mod table;
-#[cfg(test)]
-mod tests;
 
 pub use table::Table;

@@ -1,0 +1,2 @@
+pub mod TriedModels
+pub mod TriedRules

@@ -2,6 +2,7 @@ pub mod ChoosingPaths
 pub mod ChoosingWords
 pub mod Completing
 pub mod Continuing
+pub mod Differing
 pub mod Extending
 pub mod Filling
 pub mod Following

@@ -3,6 +3,8 @@ ghost use Rattle.std.specs.Prelude.{◌≡◌, ℕ, List};
 ghost use Rattle.asm_node.specs.RuleTree.{Rule};
 ghost use Rattle.asm_node.specs.Term.{World};
 ghost use Rattle.asm_node.specs.UpdateSet.{UpdateSet};
+ghost use Rattle.asm_node.specs.Machine.{Machine};
+ghost use Rattle.asm_node.specs.WellFormed.{IsWellFormed};
 ghost use Rattle.asm_node.specs.Taking.{Yields, outcome, by_words, by_paths, Choosing, Path};
 ghost use Rattle.asm_laws.specs.Sites.{AreSites};
 ghost use Rattle.asm_laws.specs.Choosing.{TuplesDiffer, GivesByWords, by_small_words, GivesBySmallWords, GivesByPaths, GivesMore};
@@ -14,6 +16,12 @@ pub fn words_are_choices()
     ensures words { (w : World) (r : Rule) (u : UpdateSet) → GivesByPaths w r u → GivesByWords w r u }
     ensures small { (w : World) (r : Rule) (u : UpdateSet) → GivesByPaths w r u → GivesBySmallWords w r u }
     ensures paths { (w : World) (r : Rule) (u : UpdateSet) (words rest : List ℕ) → TuplesDiffer w.machine → outcome by_words w r words ≡ Yields u rest → GivesByPaths w r u }
+{}
+
+/// In a well-formed model no tuple of binders stands twice.
+#[tactic(auto, using(crate::proofs::Differing::tuples_differ))]
+pub fn tuples_are_different()
+    ensures { (m : Machine) → IsWellFormed m → TuplesDiffer m }
 {}
 
 /// What a rule gives under words of which each is below the number of its candidates, it gives under these words.

@@ -8,7 +8,9 @@ mod full_law;
 mod level_law;
 mod range_law;
 
-pub use choosing_law::{choices_extend, sites_suffice, small_words_are_words, words_are_choices};
+pub use choosing_law::{
+    choices_extend, sites_suffice, small_words_are_words, tuples_are_different, words_are_choices,
+};
 pub use extending_law::{steps_extend, values_extend};
 pub use free_law::free_variables_decide;
 pub use full_law::{full_inputs_exist, full_inputs_suffice};

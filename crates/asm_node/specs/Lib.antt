@@ -1,5 +1,6 @@
 pub mod Choices
 pub mod Codes
+pub mod Declarations
 pub mod Env
 pub mod Exact
 pub mod Filled

@@ -16,6 +16,7 @@ use Rattle.asm_node.specs.declared.term_type.TermType.TheVariants.{Boolean}
 use Rattle.asm_node.specs.Types.{domain_type, no_types, parameter_types, HasType, IsTypedRule}
 use Rattle.asm_node.specs.Ranges.{Ranges, no_ranges, AreParameters, IsRanged}
 use Rattle.asm_node.specs.RuleRanges.{IsRangedRule}
+use Rattle.asm_node.specs.Declarations.{AreDeclarations}
 use Rattle.asm_node.specs.Reads.{may_be_read, may_be_called, IsReadable}
 
 -- functions of any kind, of those that have definitions, and of those that no definition of a static function reads
@@ -75,6 +76,8 @@ IsDefined m f function = is_dynamic function.kind ≡ false → definition_of m.
 pub record IsWellFormed (m : Machine) : Type 0 where
   -- the number that stands for the whole numbers is no domain's
   pub few_domains : length m.signature.domains ≤ whole
+  -- the first domain is that of the truth values, domains have elements and their places as numbers, and names differ
+  pub declarations : AreDeclarations m.signature
   -- the domains of functions are declared
   pub functions : All (IsDeclared m.signature.domains) m.signature.functions
   -- each static or derived function has one definition

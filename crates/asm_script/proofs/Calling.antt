@@ -1,60 +1,101 @@
--- The rules of a model as others call them are those of its files.
-use Rattle.std.proofs.Common.{◌≡◌, ℕ, List, [], ◌∷◌, ◌++◌, Option, refl, sym, ap, ◌∙◌}
-use Rattle.std.specs.Prelude.{map}
-use Rattle.std.specs.List.{flat_map}
+-- The rules of a model as others call them, over any files that declare rules of their names.
+use Rattle.std.proofs.Common.{◌≡◌, ℕ, ◌+◌, Bool as Truth, true, false, cond, List, [], ◌∷◌, ◌++◌, Option, Some, None, if◌then◌else◌, slice_get, refl, sym, ap, ◌∙◌, append-nil}
+use Rattle.std.specs.Prelude.{map, bytes_eq}
+use Rattle.std.specs.List.{find, flat_map, position, position_from}
+use Rattle.std.specs.Option.{option_map, unwrap_or}
+use Rattle.std.proofs.lemmas.Iterator.Adapters.{position_from-zero}
 use Rattle.asm_sign.specs.Vocabulary.{Vocabulary}
 use Rattle.asm_node.specs.declared.term.Binder.{Binder}
 use Rattle.asm_node.specs.declared.term_type.TermType.{TermType}
-use Rattle.asm_node.specs.Machine.{Macro}
+use Rattle.asm_node.specs.Machine.{Machine, Macro}
 use Rattle.asm_node.specs.Types.{domain_type}
-use Rattle.asm_tree.specs.declared.term.RawName.{RawName}
+use Rattle.asm_tree.specs.declared.rule.RawRuleKind.TheVariants as rule_kind
 use Rattle.asm_tree.specs.declared.unit.LoadedUnit.{LoadedUnit}
-use Rattle.asm_faults.specs.declared.fault.Fault.{Fault}
+use Rattle.asm_tree.specs.declared.unit.RawDefinition.{RawDefinition}
+use Rattle.asm_tree.specs.declared.unit.RawDefinition.TheVariants as definition
+use Rattle.asm_tree.specs.declared.unit.RawUnitKind.TheVariants.{Asm}
 use Rattle.asm_faults.specs.At.{Name}
-use Rattle.asm_faults.specs.Bodies as bodies
-use Rattle.asm_faults.specs.Bodies.{RuleHead, heads_of, is_defined_by_term, has_initial, functions_faults, macro_faults, rule_faults, invariant_faults}
-use Rattle.asm_faults.specs.Files.{Of, DeclaredRule, rules, definitions, initials, invariants, declared_names}
-use Rattle.asm_faults.specs.FunctionFaults.{signature_of}
-use Rattle.asm_faults.specs.Terms.{binder_faults, within}
-use Rattle.asm_faults.specs.Model.{binders_of, macro_of}
-use Rattle.asm_sound.specs.Checked.{AreFaultless}
-use Rattle.asm_sound.proofs.Scopes.{HasTruths, none_left, none_right}
-use Rattle.asm_sound.proofs.TypedRules.{Belong}
-use Rattle.asm_sound.proofs.Heads.{head_types, unknown_none, have_parameters, heads_belong}
-use Rattle.asm_script.specs.Script.{head_of}
-
--- nothing is wrong with the rules of files
-pub rules_none : (units : List LoadedUnit) → AreFaultless units → flat_map (macro_faults (signature_of units) (heads_of (signature_of units) units)) (rules units) ≡ []
-rules_none units none =
-    let v : Vocabulary = signature_of units in
-    let of_definitions : List Fault = functions_faults v is_defined_by_term (definitions units) in
-    let of_rules : List Fault = flat_map (macro_faults v (heads_of v units)) (rules units) in
-    let of_invariants : List Fault = flat_map (invariant_faults v (map (λ (p : Of RawName). p.1.text) (declared_names units))) (invariants units) in
-    let of_initials : List Fault = functions_faults v has_initial (initials units) in
-    none_left of_rules (of_invariants ++ of_initials) (none_right of_definitions (of_rules ++ (of_invariants ++ of_initials)) none.bodies)
+use Rattle.asm_faults.specs.Bodies.{RuleHead, head_named}
+use Rattle.asm_faults.specs.Calls.{rule_place}
+use Rattle.asm_faults.specs.Files.{DeclaredRule, rule_in, rules}
+use Rattle.asm_sound.proofs.Heads.{find_place, some_is}
+use Rattle.asm_sound.proofs.TypedRules.{Belong, HasMacro}
+use Rattle.asm_sound.proofs.TypedTerms.{no_some}
+use Rattle.asm_script.specs.Script.{AreNamedAlike, head_of, heads_in, rule_names}
+use Rattle.asm_script.proofs.Keeping.{IsKept}
 
 fused : (v : Vocabulary) (ps : List Binder) → map (λ (b : Binder). domain_type v.domains b.domain) ps ≡ map (domain_type v.domains) (map (λ (b : Binder). b.domain) ps)
 fused v [] = refl
 fused v (p ∷ ps) = ap (λ (types : List (Option TermType)). domain_type v.domains p.domain ∷ types) (fused v ps)
 
-module _ (number : Name → ℕ) (v : Vocabulary) (truths : HasTruths v) (units : List LoadedUnit) where
-  head_same : (heads : List RuleHead) (q : DeclaredRule) → macro_faults v heads q ≡ [] → head_of v (macro_of number v units q) ≡ bodies.head_of v q
-  head_same heads q none =
-      let head : List (Option TermType) → RuleHead = λ types. record { name = q.name.text; types = types } in
-      let known = unknown_none v q.unit q.parameters (none_left (binder_faults v q.unit q.parameters) (rule_faults v heads q.unit q.body (within v q.unit q.parameters [])) none) in
-      ap head (fused v (binders_of number v q.parameters) ∙ sym (head_types number v q.unit truths q.parameters known))
+-- the first head of a name is that of the first rule of the name
+head_found : (v : Vocabulary) (macros : List Macro) (r : Name) → head_named (map (head_of v) macros) r ≡ option_map (head_of v) (find (λ (macro : Macro). bytes_eq macro.name r) macros)
+head_found v [] r = refl
+head_found v (macro ∷ macros) r = by (bytes_eq macro.name r) (head_found v macros r)
+  where
+    by : (b : Truth) → head_named (map (head_of v) macros) r ≡ option_map (head_of v) (find (λ (macro : Macro). bytes_eq macro.name r) macros)
+        → (if b then Some (head_of v macro) else head_named (map (head_of v) macros) r) ≡ option_map (head_of v) (cond b (Some macro) (find (λ (macro : Macro). bytes_eq macro.name r) macros))
+    by true e = refl
+    by false e = e
 
-  pub heads_same : (heads : List RuleHead) (qs : List DeclaredRule) → flat_map (macro_faults v heads) qs ≡ [] → map (head_of v) (map (macro_of number v units) qs) ≡ map (bodies.head_of v) qs
-  heads_same heads [] none = refl
-  heads_same heads (q ∷ qs) none =
-      λ i. head_same heads q (none_left (macro_faults v heads q) (flat_map (macro_faults v heads) qs) none) i ∷ heads_same heads qs (none_right (macro_faults v heads q) (flat_map (macro_faults v heads) qs) none) i
+place_from : {A B : Type 0} (test : B → Truth) (f : A → B) (i : ℕ) (xs : List A) → position_from test i (map f xs) ≡ position_from (λ x. test (f x)) i xs
+place_from test f i [] = refl
+place_from test f i (x ∷ xs) = ap (λ (o : Option ℕ). cond (test (f x)) (Some i) o) (place_from test f (i + 1) xs)
 
-  pub names_same : (qs : List DeclaredRule) → map (λ (q : DeclaredRule). q.name.text) qs ≡ map (λ (macro : Macro). macro.name) (map (macro_of number v units) qs)
-  names_same [] = refl
-  names_same (q ∷ qs) = ap (λ (names : List Name). q.name.text ∷ names) (names_same qs)
+place_of_image : {A B : Type 0} (test : B → Truth) (f : A → B) (xs : List A) → position test (map f xs) ≡ position (λ x. test (f x)) xs
+place_of_image test f xs = position_from-zero test (map f xs) ∙ place_from test f 0 xs ∙ sym (position_from-zero (λ x. test (f x)) xs)
 
-  -- the heads of files belong to the model's rules, whatever numbers other variables have
-  pub belong : (other : Name → ℕ) → flat_map (macro_faults v (heads_of v units)) (rules units) ≡ [] → Belong other v units (heads_of v units) (map (macro_of number v units) (rules units))
-  belong other none r h is =
-      let own = heads_belong number v truths units (have_parameters number v truths units none) r h is in
-      record { macro = own.macro; is_macro = own.is_macro; types = own.types; known = own.known }
+-- a rule has the place of its name among the rules of the model
+place_is : (units : List LoadedUnit) (m : Machine) → AreNamedAlike units m → (r : Name) → rule_place units r ≡ position (λ (macro : Macro). bytes_eq macro.name r) m.rules
+place_is units m alike r =
+    sym (place_of_image (λ (name : Name). bytes_eq name r) (λ (q : DeclaredRule). q.name.text) (rules units))
+    ∙ ap (position (λ (name : Name). bytes_eq name r)) alike
+    ∙ place_of_image (λ (name : Name). bytes_eq name r) (λ (macro : Macro). macro.name) m.rules
+
+-- the heads belong to the model's rules, whatever numbers variables have
+pub belong : (number : Name → ℕ) (units : List LoadedUnit) (m : Machine) → IsKept m → AreNamedAlike units m → Belong number m.signature units (heads_in m) m.rules
+belong number units m is_kept alike r h is = by (find test m.rules) refl
+  where
+    test : Macro → Truth
+    test macro = bytes_eq macro.name r
+
+    by : (o : Option Macro) → find test m.rules ≡ o → HasMacro number m.signature units m.rules r h
+    by None e = absurd (no_some h (sym (ap (option_map (head_of m.signature)) e) ∙ sym (head_found m.signature m.rules r) ∙ is))
+    by (Some macro) e =
+        (let same = some_is (head_of m.signature macro) h (sym (ap (option_map (head_of m.signature)) e) ∙ sym (head_found m.signature m.rules r) ∙ is) in
+        let at = find_place test m.rules macro e in
+        record {
+          macro = macro;
+          is_macro = ap (λ (o : Option ℕ). slice_get m.rules (unwrap_or o 0)) (place_is units m alike r ∙ at.1) ∙ at.2;
+          types = ap (λ (z : RuleHead). z.types) (sym same) ∙ fused m.signature macro.parameters;
+          known = is_kept.parameters at.0 macro at.2;
+        })
+
+-- ---- files with rules of given names
+
+abbrev rule_named : Name → RawDefinition
+rule_named name = definition.Rule (record { at = 0; text = name }) [] (record { at = 0; kind = rule_kind.Skip })
+
+abbrev pub files_named : List Name → List LoadedUnit
+files_named names = record {
+  file = 0;
+  unit = record {
+    kind = Asm;
+    name = record { at = 0; text = [] };
+    imports = [];
+    declarations = [];
+    definitions = map rule_named names;
+    main = None;
+    init = None;
+  };
+} ∷ []
+
+names_from : (names : List Name) → map (λ (q : DeclaredRule). q.name.text) (flat_map rule_in (map (λ (d : RawDefinition). (0, d)) (map rule_named names))) ≡ names
+names_from [] = refl
+names_from (name ∷ names) = ap (λ (others : List Name). name ∷ others) (names_from names)
+
+pub named_alike : (m : Machine) → AreNamedAlike (files_named (rule_names m)) m
+named_alike m =
+    let of : List RawDefinition → List DeclaredRule = λ ds. flat_map rule_in (map (λ (d : RawDefinition). (0, d)) ds) in
+    ap (map (λ (q : DeclaredRule). q.name.text)) (append-nil (flat_map rule_in (map (λ (d : RawDefinition). (0, d)) (map rule_named (rule_names m)) ++ [])) ∙ ap (flat_map rule_in) (append-nil (map (λ (d : RawDefinition). (0, d)) (map rule_named (rule_names m)))))
+    ∙ names_from (rule_names m)

@@ -1,6 +1,6 @@
 mod Answering
 mod Calling
-mod Few
+mod Keeping
 mod Making
 mod Passing
 mod Sound

@@ -1,5 +1,5 @@
 -- The conditions and rules of scenarios over a model, and what is wrong with them.
-use Rattle.std.specs.Prelude.{◌≡◌, ℕ, List, [], ◌∷◌, map, Option, Some, None}
+use Rattle.std.specs.Prelude.{◌≡◌, ℕ, List, [], ◌∷◌, map, Option, Some}
 use Rattle.std.specs.Option.{option_map}
 use Rattle.asm_sign.specs.Vocabulary.{Vocabulary}
 use Rattle.asm_node.specs.declared.term.Binder.{Binder}
@@ -14,7 +14,6 @@ use Rattle.asm_tree.specs.declared.unit.LoadedUnit.{LoadedUnit}
 use Rattle.asm_faults.specs.declared.fault.Fault.{Fault as Found}
 use Rattle.asm_faults.specs.At.{Name}
 use Rattle.asm_faults.specs.Bodies as bodies
-use Rattle.asm_faults.specs.Check.{model_fault}
 use Rattle.asm_faults.specs.Bodies.{RuleHead}
 use Rattle.asm_faults.specs.Files.{DeclaredRule, rules}
 use Rattle.asm_faults.specs.First.{first_fault}
@@ -24,12 +23,6 @@ use Rattle.asm_faults.specs.Ranges.{measured}
 use Rattle.asm_faults.specs.Terms.{asked, judged}
 use Rattle.asm_faults.specs.declared.error.ModelError.{ModelError}
 use Rattle.asm_faults.specs.declared.error.ModelError.TheVariants.{Fault, Memory}
-use Rattle.asm_faults.specs.Model.{IsModelOf}
-
--- the model is that of these files, in which nothing is wrong
-pub record AreFilesOf (units : List LoadedUnit) (m : Machine) : Type 0 where
-  pub is_model : IsModelOf units m
-  pub no_fault : model_fault units ≡ None
 
 -- ---- the rules that a scenario may call
 

@@ -1,11 +1,10 @@
 //! One condition and one rule over a model.
-ghost use Rattle.std.specs.Prelude.{◌≡◌, List, None, IfOk, IfErr};
+ghost use Rattle.std.specs.Prelude.{◌≡◌, None, IfOk, IfErr};
 ghost use Rattle.asm_node.specs.Model.{machine_of};
 ghost use Rattle.asm_node.specs.RuleTree.{plain_rule};
 ghost use Rattle.asm_node.specs.Tree.{plain};
 ghost use Rattle.asm_node.specs.WellFormed.{IsCondition, IsRule};
-ghost use Rattle.asm_tree.specs.declared.unit.LoadedUnit.{LoadedUnit};
-ghost use Rattle.asm_script.specs.Script.{AreFilesOf, IsConditionOf, IsRuleOf, Tells, condition_fault, rule_fault};
+ghost use Rattle.asm_script.specs.Script.{IsConditionOf, IsRuleOf, Tells, condition_fault, rule_fault};
 
 use crate::script::Script;
 use asm_faults::ModelError;
@@ -26,7 +25,7 @@ pub fn resolve_term(
 ) -> Result<Rc<Term>, ModelError>
     ensures faultless { IfOk result (λ t. condition_fault (machine_of model.now).signature raw.now ≡ None) }
     ensures term { IfOk result (λ t. IsConditionOf (machine_of model.now).signature raw.now (plain t.value)) }
-    ensures sound { IfOk result (λ t. (units : List LoadedUnit) → AreFilesOf units (machine_of model.now) → IsCondition (machine_of model.now) (plain t.value)) }
+    ensures sound { IfOk result (λ t. IsCondition (machine_of model.now) (plain t.value)) }
     ensures fault { IfErr result (Tells file (condition_fault (machine_of model.now).signature raw.now)) }
 {
     let script = Script::new(alloc, model)?;
@@ -43,7 +42,7 @@ pub fn resolve_rule(
 ) -> Result<Rc<Rule>, ModelError>
     ensures faultless { IfOk result (λ r. rule_fault (machine_of model.now) raw.now ≡ None) }
     ensures rule { IfOk result (λ r. IsRuleOf (machine_of model.now) file raw.now (plain_rule r.value)) }
-    ensures sound { IfOk result (λ r. (units : List LoadedUnit) → AreFilesOf units (machine_of model.now) → IsRule (machine_of model.now) (plain_rule r.value)) }
+    ensures sound { IfOk result (λ r. IsRule (machine_of model.now) (plain_rule r.value)) }
     ensures fault { IfErr result (Tells file (rule_fault (machine_of model.now) raw.now)) }
 {
     let script = Script::new(alloc, model)?;

@@ -1,11 +1,10 @@
 //! What a scenario may name.
-ghost use Rattle.std.specs.Prelude.{◌≡◌, List, None, IfOk, IfErr};
+ghost use Rattle.std.specs.Prelude.{◌≡◌, None, IfOk, IfErr};
 ghost use Rattle.asm_node.specs.Model.{machine_of};
 ghost use Rattle.asm_node.specs.RuleTree.{plain_rule};
 ghost use Rattle.asm_node.specs.Tree.{plain};
 ghost use Rattle.asm_node.specs.WellFormed.{IsCondition, IsRule};
-ghost use Rattle.asm_tree.specs.declared.unit.LoadedUnit.{LoadedUnit};
-ghost use Rattle.asm_script.specs.Script.{AreFilesOf, IsConditionOf, IsRuleOf, Tells, condition_fault, rule_fault};
+ghost use Rattle.asm_script.specs.Script.{IsConditionOf, IsRuleOf, Tells, condition_fault, rule_fault};
 
 use crate::conditions::condition_of;
 use crate::rules::rule_of;
@@ -61,7 +60,7 @@ impl<'m> Script<'m> {
     pub fn condition(&self, raw: &RawTerm, file: u32) -> Result<Rc<Term>, ModelError>
         ensures faultless { IfOk result (λ t. condition_fault self.now.signature raw.now ≡ None) }
         ensures term { IfOk result (λ t. IsConditionOf self.now.signature raw.now (plain t.value)) }
-        ensures sound { IfOk result (λ t. (units : List LoadedUnit) → AreFilesOf units self.now → IsCondition self.now (plain t.value)) }
+        ensures sound { IfOk result (λ t. IsCondition self.now (plain t.value)) }
         ensures fault { IfErr result (Tells file (condition_fault self.now.signature raw.now)) }
     {
         condition_of(
@@ -78,7 +77,7 @@ impl<'m> Script<'m> {
     pub fn rule(&self, raw: &RawRule, file: u32) -> Result<Rc<Rule>, ModelError>
         ensures faultless { IfOk result (λ r. rule_fault self.now raw.now ≡ None) }
         ensures rule { IfOk result (λ r. IsRuleOf self.now file raw.now (plain_rule r.value)) }
-        ensures sound { IfOk result (λ r. (units : List LoadedUnit) → AreFilesOf units self.now → IsRule self.now (plain_rule r.value)) }
+        ensures sound { IfOk result (λ r. IsRule self.now (plain_rule r.value)) }
         ensures fault { IfErr result (Tells file (rule_fault self.now raw.now)) }
     {
         rule_of(

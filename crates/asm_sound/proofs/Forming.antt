@@ -3,6 +3,7 @@ use Rattle.std.proofs.Common.{◌≡◌, ◌≤◌, length, Some, slice_get, All
 use Rattle.std.specs.Prelude.{map}
 use Rattle.asm_sign.specs.declared.function.Function.{Function}
 use Rattle.asm_node.specs.Machine.{Machine, Definition, Macro}
+use Rattle.asm_node.specs.Declarations.{AreDeclarations}
 use Rattle.asm_node.specs.Values.{whole}
 use Rattle.asm_node.specs.Ranges.{Ranges, no_ranges, AreParameters, IsRanged}
 use Rattle.asm_node.specs.RuleRanges.{IsRangedRule}
@@ -25,9 +26,10 @@ pub record AreRanged (m : Machine) : Type 0 where
   pub invariants : All (IsRanged m.signature no_ranges) m.invariants
   pub main : IsRangedRule m.signature no_ranges m.main
 
-pub well_formed : (m : Machine) → length m.signature.domains ≤ whole → IsChecked m → AreRanged m → IsWellFormed m
-well_formed m few c r = record {
+pub well_formed : (m : Machine) → length m.signature.domains ≤ whole → AreDeclarations m.signature → IsChecked m → AreRanged m → IsWellFormed m
+well_formed m few declarations c r = record {
   few_domains = few;
+  declarations = declarations;
   functions = c.functions;
   definitions = λ k d lt. (let t = c.definitions k d lt in
       let i = r.definitions k d lt t.function t.is_function in

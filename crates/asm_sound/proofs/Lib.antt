@@ -1,6 +1,9 @@
+pub mod Among
 pub mod Called
 pub mod Chains
 pub mod Checking
+pub mod Declarations
+pub mod Declared
 pub mod Definitions
 pub mod Folding
 pub mod Forming

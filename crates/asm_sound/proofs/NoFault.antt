@@ -24,6 +24,7 @@ first_none faults later none = by (noted None faults) refl none
 -- none of the passes finds anything wrong
 record AreAllNone (units : List LoadedUnit) : Type 0 where
   faultless : AreFaultless units
+  undisputed : domain_faults units ≡ []
   unrefused : range_faults (signature_of units) units ≡ []
 
 all_none : (units : List LoadedUnit) → model_fault units ≡ None → AreAllNone units
@@ -42,6 +43,7 @@ all_none units none =
     let of_ranges = first_none ranges (first_fault []) of_reads.1 in
     record {
       faultless = record { names = of_names.0; functions = of_functions.0; bodies = of_bodies.0; missing = of_missing.0; calls = of_calls.0; reads = of_reads.0 };
+      undisputed = of_domains.0;
       unrefused = of_ranges.0;
     }
 
@@ -51,3 +53,7 @@ faultless units none = (all_none units none).faultless
 -- and none refuses an interval
 pub unrefused : (units : List LoadedUnit) → model_fault units ≡ None → range_faults (signature_of units) units ≡ []
 unrefused units none = (all_none units none).unrefused
+
+-- and none finds anything wrong with domains
+pub undisputed : (units : List LoadedUnit) → model_fault units ≡ None → domain_faults units ≡ []
+undisputed units none = (all_none units none).undisputed

@@ -37,6 +37,7 @@ use Rattle.asm_faults.specs.Ranges.{within, term_faults, rule_faults, function_f
 use Rattle.asm_faults.specs.Check.{model_fault}
 use Rattle.asm_faults.specs.Model.{IsNumbering, binders_of, tree_of, rule_of, file_of, definition_of, macro_of, main_rules, first_or_skip, machine_of}
 use Rattle.asm_sound.specs.Checked.{AreFaultless}
+use Rattle.asm_sound.proofs.Declarations.{signature_declarations}
 use Rattle.asm_sound.proofs.Scopes.{full, none_left, none_right, holds}
 use Rattle.asm_sound.proofs.TypedTerms.{IsReady, no_some, asked_own, function_found}
 use Rattle.asm_sound.proofs.Heads.{none_at, all_found, some_is, unknown_none}
@@ -45,7 +46,7 @@ use Rattle.asm_sound.proofs.MacroRules.{flat_map-append}
 use Rattle.asm_sound.proofs.Signature.{signature_ready}
 use Rattle.asm_sound.proofs.Checking.{checked}
 use Rattle.asm_sound.proofs.Forming.{AreRanged, well_formed}
-use Rattle.asm_sound.proofs.NoFault.{faultless, unrefused}
+use Rattle.asm_sound.proofs.NoFault.{faultless, undisputed, unrefused}
 use Rattle.asm_sound.proofs.RangedScopes.{known_number, agrees_none, Match, parameters_in}
 use Rattle.asm_sound.proofs.RangedTerms.{term_ranged}
 use Rattle.asm_sound.proofs.RangedRules.{rule_ranged}
@@ -234,4 +235,4 @@ module _ (number : Name → ℕ) (units : List LoadedUnit) (numbering : IsNumber
 pub model_formed : (number : Name → ℕ) (units : List LoadedUnit) → IsNumbering number → length (domains_of units) ≤ whole → model_fault units ≡ None → IsWellFormed (machine_of number units)
 model_formed number units numbering few none =
     let fine = faultless units none in
-    well_formed (machine_of number units) few (checked number units numbering few fine) (ranged number units numbering few fine (unrefused units none))
+    well_formed (machine_of number units) few (signature_declarations units fine.names (undisputed units none) few) (checked number units numbering few fine) (ranged number units numbering few fine (unrefused units none))

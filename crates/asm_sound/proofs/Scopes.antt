@@ -102,7 +102,7 @@ pub record HasTruths (v : Vocabulary) : Type 0 where
   pub first : DeclaredDomain
   pub is_first : slice_get v.domains 0 ≡ Some first
 
-typed_by : (domains : List DeclaredDomain) (d : ℕ) (declared : DeclaredDomain) → slice_get domains d ≡ Some declared → (r : TermType) × (domain_type domains d ≡ Some r)
+pub typed_by : (domains : List DeclaredDomain) (d : ℕ) (declared : DeclaredDomain) → slice_get domains d ≡ Some declared → (r : TermType) × (domain_type domains d ≡ Some r)
 typed_by domains d declared is = by (nat_eq d whole)
   where
     by : (t : Truth) → (r : TermType) × ((if t then Some Integer else option_map (λ (x : DeclaredDomain). type_of x.domain) (slice_get domains d)) ≡ Some r)

@@ -1,5 +1,5 @@
 -- The signature of a model in whose names, domains and functions nothing is wrong.
-use Rattle.std.proofs.Common.{◌≡◌, ℕ, suc, zero, ◌+◌, ◌<◌, ◌≤◌, All, Bool as Truth, true, false, true≢false, not, ◌&&◌, ◌||◌, cond, List, [], ◌∷◌, ◌++◌, length, Option, Some, None, nat_lt, if◌then◌else◌, slice_get, append_assoc, refl, sym, ap, subst, ◌∙◌, arith}
+use Rattle.std.proofs.Common.{◌≡◌, ℕ, suc, zero, ◌+◌, ◌<◌, ◌≤◌, All, Bool as Truth, true, false, true≢false, not, ◌&&◌, ◌||◌, cond, List, [], ◌∷◌, ◌++◌, length, Option, Some, None, nat_lt, if◌then◌else◌, slice_get, refl, sym, ap, subst, ◌∙◌, arith}
 use Rattle.std.specs.Prelude.{map, bytes_eq}
 use Rattle.std.specs.List.{flat_map, find, position, position_from, list_any, enumerate_from}
 use Rattle.std.specs.Option.{option_map, unwrap_or}
@@ -20,28 +20,27 @@ use Rattle.asm_tree.specs.declared.term.RawName.{RawName}
 use Rattle.asm_tree.specs.declared.unit.RawDeclaration.{RawDeclaration}
 use Rattle.asm_tree.specs.declared.unit.RawDeclaration.TheVariants as declaration
 use Rattle.asm_tree.specs.declared.unit.RawFunction.{RawFunction}
-use Rattle.asm_tree.specs.declared.unit.RawUnit.{RawUnit}
 use Rattle.asm_tree.specs.declared.unit.LoadedUnit.{LoadedUnit}
 use Rattle.asm_faults.specs.declared.fault.Fault.{Fault}
-use Rattle.asm_faults.specs.declared.fault.ModelFault.TheVariants.{Duplicate, Unknown, NoDefinition, WrongArity, DomainTooLarge}
+use Rattle.asm_faults.specs.declared.fault.ModelFault.TheVariants.{Unknown, NoDefinition, WrongArity, DomainTooLarge}
 use Rattle.asm_faults.specs.At.{Name, fault_at}
-use Rattle.asm_faults.specs.DomainFaults.{DomainDefinition, numbers_of, definition_of_domain, constants_of, boolean, integer, is_listed, repeats, name_faults}
-use Rattle.asm_faults.specs.Files.{domains as declared_domains, DomainForm, Enumerated, Part, Abstract, DeclaredDomain, Of, numbered, has_name, DeclaredFunction, function_in, functions, definitions, names_in_declaration, names_in_definition, names_in, main_names, named_of, declared_names}
+use Rattle.asm_faults.specs.DomainFaults.{DomainDefinition, numbers_of, definition_of_domain, constants_of, boolean, integer, is_listed, name_faults}
+use Rattle.asm_faults.specs.Files.{domains as declared_domains, DomainForm, Enumerated, Part, Abstract, DeclaredDomain, Of, has_name, DeclaredFunction, function_in, functions, definitions, names_in_declaration, declared_names}
 use Rattle.asm_faults.specs.FunctionFaults.{domain_number, is_domain_named, declared_domain, number_or_whole, domains_of, function_of, signature_of, truth_values, unknown_domain, infinite_domain, own_faults, location_faults, function_faults, kind_of}
 use Rattle.asm_faults.specs.Bodies.{is_defined_by_term}
 use Rattle.asm_faults.specs.Missing.{defined_names, undefined}
 use Rattle.asm_faults.specs.Calls.{definition_named}
 use Rattle.asm_faults.specs.Model.{definition_of}
+use Rattle.asm_sound.proofs.Among.{Among, Empty, With, among_none, fresh_among, items_among, of_unit}
 use Rattle.asm_sound.proofs.Inductions.{Every}
 use Rattle.asm_sound.proofs.Scopes.{full, none_left, none_right, fails, HasTruths, typed_domain}
 use Rattle.asm_sound.proofs.TypedTerms.{Typed, IsReady, no_some}
 use Rattle.asm_sound.proofs.Heads.{none_at, all_found, some_is}
-use Rattle.asm_sound.proofs.Definitions.{one_place_of}
 use Rattle.asm_sound.proofs.Chains.{Placed, IsKnownBody, machine, definition_at}
 
 -- ---- domains have their places as numbers
 
-abbrev universe_by : List LoadedUnit → ℕ → DeclaredDomain → DomainForm → Universe
+abbrev pub universe_by : List LoadedUnit → ℕ → DeclaredDomain → DomainForm → Universe
 universe_by units number d (Enumerated es) = Named number (map (λ (e : RawName). e.text) es)
 universe_by units number d (Part base) = Numbers (unwrap_or (option_map (λ (x : DomainDefinition). numbers_of x.numerals) (definition_of_domain units d.name.text)) [])
 universe_by units number d Abstract = Named number (constants_of units d.name.text)
@@ -102,7 +101,7 @@ module _ (units : List LoadedUnit) where
       (typed_arguments f.unit f.domains (none_left arguments (codomain ++ (infinite ++ arity)) none), typed_domain (signature_of units) f.unit f.codomain (truths_of units) (none_left codomain (infinite ++ arity) rest))
 
   -- the functions of the signature are those that are declared
-  declared_at : (k : ℕ) (g : Function) → slice_get (signature_of units).functions k ≡ Some g → (f : DeclaredFunction) × (slice_get (functions units) k ≡ Some f) × (function_of domains f ≡ g)
+  pub declared_at : (k : ℕ) (g : Function) → slice_get (signature_of units).functions k ≡ Some g → (f : DeclaredFunction) × (slice_get (functions units) k ≡ Some f) × (function_of domains f ≡ g)
   declared_at k g is = by (slice_get (functions units) k) refl (sym (slice_get-map (function_of domains) (functions units) k) ∙ is)
     where
       by : (o : Option DeclaredFunction) → slice_get (functions units) k ≡ o → option_map (function_of domains) o ≡ Some g → (f : DeclaredFunction) × (slice_get (functions units) k ≡ Some f) × (function_of domains f ≡ g)
@@ -175,52 +174,9 @@ module _ (units : List LoadedUnit) where
 
 -- ---- names are declared once
 
--- names that a list of names has, in their order
-data Among : List (Of RawName) → List (Of RawName) → Type 0 where
-  Empty : Among [] []
-  Without : (y : Of RawName) {xs ys : List (Of RawName)} → Among xs ys → Among xs (y ∷ ys)
-  With : (x : Of RawName) {xs ys : List (Of RawName)} → Among xs ys → Among (x ∷ xs) (x ∷ ys)
-
-among_none : (ys : List (Of RawName)) → Among [] ys
-among_none [] = Empty
-among_none (y ∷ ys) = Without y (among_none ys)
-
-among_both : {xs ys zs ws : List (Of RawName)} → Among xs ys → Among zs ws → Among (xs ++ zs) (ys ++ ws)
-among_both Empty b = b
-among_both (Without y a) b = Without y (among_both a b)
-among_both (With x a) b = With x (among_both a b)
-
--- the place of an item in the longer list
-place_among : {xs ys : List (Of RawName)} → Among xs ys → (k : ℕ) (x : Of RawName) → slice_get xs k ≡ Some x → (j : ℕ) × (slice_get ys j ≡ Some x)
-place_among Empty k x is = absurd (no_some x is)
-place_among (Without y a) k x is = let p = place_among a k x is in (suc p.0, p.1)
-place_among (With y a) zero x is = (0, is)
-place_among (With y a) (suc k) x is = let p = place_among a k x is in (suc p.0, p.1)
-
-never_zero : {k : ℕ} → 0 ≡ suc k → ⊥
-never_zero e = omega (arith, e)
-
--- where the longer list has no name twice, the shorter has none
-fresh_among : (earlier : List Name) {xs ys : List (Of RawName)} → Among xs ys → repeats earlier ys ≡ [] → (i j : ℕ) (p q : Of RawName) → slice_get xs i ≡ Some p → slice_get xs j ≡ Some q → p.1.text ≡ q.1.text → i ≡ j
-fresh_among earlier Empty none i j p q at_i at_j same = absurd (no_some p at_i)
-fresh_among earlier (Without y {xs = xs} {ys = ys} a) none i j p q at_i at_j same =
-    fresh_among (earlier ++ y.1.text ∷ []) a (none_right (cond (is_listed earlier y.1.text) (fault_at Duplicate y.0 y.1 ∷ []) []) (repeats (earlier ++ y.1.text ∷ []) ys) none) i j p q at_i at_j same
-fresh_among earlier (With x {xs = xs} {ys = ys} a) none zero zero p q at_i at_j same = refl
-fresh_among earlier (With x {xs = xs} {ys = ys} a) none zero (suc j) p q at_i at_j same =
-    let there = place_among a j q at_j in
-    absurd (never_zero (one_place_of earlier (x ∷ ys) none 0 (suc there.0) p q at_i there.1 same))
-fresh_among earlier (With x {xs = xs} {ys = ys} a) none (suc i) zero p q at_i at_j same =
-    let there = place_among a i p at_i in
-    absurd (never_zero (one_place_of earlier (x ∷ ys) none 0 (suc there.0) q p at_j there.1 (sym same)))
-fresh_among earlier (With x {xs = xs} {ys = ys} a) none (suc i) (suc j) p q at_i at_j same =
-    ap suc (fresh_among (earlier ++ x.1.text ∷ []) a (none_right (cond (is_listed earlier x.1.text) (fault_at Duplicate x.0 x.1 ∷ []) []) (repeats (earlier ++ x.1.text ∷ []) ys) none) i j p q at_i at_j same)
-
 -- the names of functions
 abbrev name_of : DeclaredFunction → Of RawName
 name_of f = (f.unit, f.name)
-
-abbrev of_unit : {A : Type 0} → ℕ → List A → List (Of A)
-of_unit n xs = map (λ a. (n, a)) xs
 
 declared_among : (n : ℕ) (d : RawDeclaration) → Among (map name_of (function_in (n, d))) (of_unit n (names_in_declaration d))
 declared_among n (declaration.Enumeration d es) = among_none (of_unit n (d ∷ es))
@@ -228,50 +184,11 @@ declared_among n (declaration.Subset d base) = among_none (of_unit n (d ∷ []))
 declared_among n (declaration.Abstract d) = among_none (of_unit n (d ∷ []))
 declared_among n (declaration.Function kind f ds c) = With (n, f) Empty
 
-map_both : {A B : Type 0} (h : A → B) (xs ys : List A) → map h (xs ++ ys) ≡ map h xs ++ map h ys
-map_both h [] ys = refl
-map_both h (x ∷ xs) ys = ap (λ zs. h x ∷ zs) (map_both h xs ys)
-
-flat_both : {A B : Type 0} (h : A → List B) (xs ys : List A) → flat_map h (xs ++ ys) ≡ flat_map h xs ++ flat_map h ys
-flat_both h [] ys = refl
-flat_both h (x ∷ xs) ys = ap (λ zs. h x ++ zs) (flat_both h xs ys) ∙ sym (append_assoc (h x) (flat_map h xs) (flat_map h ys))
-
-unit_among : (n : ℕ) (ds : List RawDeclaration) → Among (map name_of (flat_map function_in (of_unit n ds))) (of_unit n (flat_map names_in_declaration ds))
-unit_among n [] = Empty
-unit_among n (d ∷ ds) =
-    subst (λ xs. Among xs (of_unit n (flat_map names_in_declaration (d ∷ ds)))) (sym (map_both name_of (function_in (n, d)) (flat_map function_in (of_unit n ds))))
-    (subst (λ ys. Among (map name_of (function_in (n, d)) ++ map name_of (flat_map function_in (of_unit n ds))) ys) (sym (map_both (λ a. (n, a)) (names_in_declaration d) (flat_map names_in_declaration ds)))
-    (among_both (declared_among n d) (unit_among n ds)))
-
-append_nothing : {A : Type 0} (xs : List A) → xs ++ [] ≡ xs
-append_nothing [] = refl
-append_nothing (x ∷ xs) = ap (λ zs. x ∷ zs) (append_nothing xs)
-
-names_among : (n : ℕ) (u : RawUnit) → Among (map name_of (flat_map function_in (of_unit n u.declarations))) (of_unit n (names_in u))
-names_among n u =
-    subst (λ ys. Among (map name_of (flat_map function_in (of_unit n u.declarations))) ys) (sym (map_both (λ a. (n, a)) (flat_map names_in_declaration u.declarations) (flat_map names_in_definition u.definitions)))
-    (subst (λ xs. Among xs (of_unit n (flat_map names_in_declaration u.declarations) ++ of_unit n (flat_map names_in_definition u.definitions))) (append_nothing (map name_of (flat_map function_in (of_unit n u.declarations))))
-    (among_both (unit_among n u.declarations) (among_none (of_unit n (flat_map names_in_definition u.definitions)))))
-
-abbrev declarations_of : ℕ × RawUnit → List (Of RawDeclaration)
-declarations_of p = of_unit p.0 p.1.declarations
-
-abbrev names_of : ℕ × RawUnit → List (Of RawName)
-names_of p = of_unit p.0 (names_in p.1)
-
-units_among : (us : List (ℕ × RawUnit)) → Among (map name_of (flat_map function_in (flat_map declarations_of us))) (flat_map names_of us)
-units_among [] = Empty
-units_among (u ∷ us) =
-    subst (λ xs. Among xs (flat_map names_of (u ∷ us)))
-    (sym (ap (map name_of) (flat_both function_in (declarations_of u) (flat_map declarations_of us)) ∙ map_both name_of (flat_map function_in (declarations_of u)) (flat_map function_in (flat_map declarations_of us))))
-    (among_both (names_among u.0 u.1) (units_among us))
-
 functions_among : (units : List LoadedUnit) → Among (map name_of (functions units)) (declared_names units)
-functions_among units =
-    subst (λ xs. Among xs (declared_names units)) (append_nothing (map name_of (functions units))) (among_both (units_among (numbered units)) (among_none (named_of main_names units)))
+functions_among units = items_among function_in name_of declared_among units
 
 -- the first item that passes is the only one
-only_place : {A : Type 0} (test : A → Truth) (i : ℕ) (xs : List A) (k : ℕ) (x : A) → slice_get xs k ≡ Some x → test x ≡ true → ((j : ℕ) (y : A) → slice_get xs j ≡ Some y → test y ≡ true → j ≡ k) → position_from test i xs ≡ Some (i + k)
+pub only_place : {A : Type 0} (test : A → Truth) (i : ℕ) (xs : List A) (k : ℕ) (x : A) → slice_get xs k ≡ Some x → test x ≡ true → ((j : ℕ) (y : A) → slice_get xs j ≡ Some y → test y ≡ true → j ≡ k) → position_from test i xs ≡ Some (i + k)
 only_place test i [] k x is passes one = absurd (no_some x is)
 only_place test i (y ∷ xs) zero x is passes one =
     ap (λ (b : Truth). cond b (Some i) (position_from test (i + 1) xs)) (ap test (some_is y x is) ∙ passes) ∙ ap (λ (z : ℕ). Some z) (omega arith)

@@ -40,7 +40,7 @@ grows_none m file acts = record {
   more = [];
   acts_are = sym (append-nil acts);
   are = tt;
-  sound = λ units files all. All-nil (IsAct m);
+  sound = λ all. All-nil (IsAct m);
 }
 
 pub grows_both : (m : Machine) (file : ℕ) (cs ds : List RawCommand) (a b c : List Act) → Grows m file cs a b → Grows m file ds b c → Grows m file (cs ++ ds) a c
@@ -48,9 +48,9 @@ grows_both m file cs ds a b c g h = record {
   more = g.more ++ h.more;
   acts_are = h.acts_are ∙ ap (λ acts. acts ++ h.more) g.acts_are ∙ append_assoc a g.more h.more;
   are = are_append m file cs g.more ds h.more g.are h.are;
-  sound = λ units files all.
-      let here : All (IsAct m) g.more = g.sound units files all in
-      All-append (IsAct m) g.more h.more here (h.sound units files (All-same (IsAct m) b (a ++ g.more) g.acts_are (All-append (IsAct m) a g.more all here)));
+  sound = λ all.
+      let here : All (IsAct m) g.more = g.sound all in
+      All-append (IsAct m) g.more h.more here (h.sound (All-same (IsAct m) b (a ++ g.more) g.acts_are (All-append (IsAct m) a g.more all here)));
 }
 
 pub grows_same : (m : Machine) (file : ℕ) (cs ds : List RawCommand) (a b : List Act) → cs ≡ ds → Grows m file cs a b → Grows m file ds a b

@@ -6,12 +6,10 @@ use Rattle.asm_faults.specs.At.{Name}
 use Rattle.asm_node.specs.Machine.{Machine}
 use Rattle.asm_faults.specs.declared.error.ModelError.{ModelError}
 use Rattle.asm_faults.specs.declared.error.ModelError.TheVariants as failure
-use Rattle.asm_script.specs.Script.{AreFilesOf}
 use Rattle.asm_tree.specs.declared.script.RawCommand.{RawCommand}
 use Rattle.asm_tree.specs.declared.script.RawScenarioCommand.{RawScenarioCommand}
 use Rattle.asm_tree.specs.declared.script.RawScenarioCommand.TheVariants as scenario
 use Rattle.asm_tree.specs.declared.term.RawName.{RawName}
-use Rattle.asm_tree.specs.declared.unit.LoadedUnit.{LoadedUnit}
 use Rattle.avalla_command.specs.Acts.{Act, IsAct}
 use Rattle.avalla_prepare.specs.declared.blocks.Ended.{Ended}
 use Rattle.avalla_prepare.specs.declared.error.ScenarioError.{ScenarioError}
@@ -120,4 +118,4 @@ pub record Grows (m : Machine) (file : ℕ) (cs : List RawCommand) (acts_before 
   pub more : List Act
   pub acts_are : acts ≡ acts_before ++ more
   pub are : AreActsOf m file cs more
-  pub sound : (units : List LoadedUnit) → AreFilesOf units m → All (IsAct m) acts_before → All (IsAct m) more
+  pub sound : All (IsAct m) acts_before → All (IsAct m) more

@@ -1,8 +1,6 @@
 //! The commands of a scenario over a model.
-ghost use Rattle.std.specs.Prelude.{◌≡◌, ◌≤◌, All, List, None, IfOk, IfErr, length};
+ghost use Rattle.std.specs.Prelude.{◌≡◌, ◌≤◌, All, None, IfOk, IfErr, length};
 ghost use Rattle.asm_node.specs.Model.{machine_of};
-ghost use Rattle.asm_script.specs.Script.{AreFilesOf};
-ghost use Rattle.asm_tree.specs.declared.unit.LoadedUnit.{LoadedUnit};
 ghost use Rattle.avalla_command.specs.Acts.{IsAct, acts_of};
 ghost use Rattle.avalla_prepare.specs.Parts as spec;
 ghost use Rattle.avalla_prepare.specs.Prepared.{AreActsOf, Tells, place_of, scenario_fault};
@@ -30,7 +28,7 @@ pub fn prepare(
 ) -> Result<Play, ScenarioError>
     ensures faultless { IfOk result (λ play. scenario_fault (machine_of model.now) file raw.now ≡ None) }
     ensures acts { IfOk result (λ play. AreActsOf (machine_of model.now) file (commands_met raw.now) (acts_of play)) }
-    ensures sound { IfOk result (λ play. (units : List LoadedUnit) → AreFilesOf units (machine_of model.now) → All (IsAct (machine_of model.now)) (acts_of play)) }
+    ensures sound { IfOk result (λ play. All (IsAct (machine_of model.now)) (acts_of play)) }
     ensures few { IfOk result (λ play. length play ≤ 100000) }
     ensures fault { IfErr result (Tells (scenario_fault (machine_of model.now) file raw.now)) }
 {

@@ -1,10 +1,9 @@
 //! Written commands over a model.
-ghost use Rattle.std.specs.Prelude.{◌≡◌, List, [], IfOk, IfErr};
+ghost use Rattle.std.specs.Prelude.{◌≡◌, [], IfOk, IfErr};
 ghost use Rattle.asm_node.specs.RuleTree.{plain_rule};
 ghost use Rattle.asm_node.specs.Tree.{plain};
 ghost use Rattle.asm_node.specs.WellFormed.{IsCondition, IsRule};
-ghost use Rattle.asm_tree.specs.declared.unit.LoadedUnit.{LoadedUnit};
-ghost use Rattle.asm_script.specs.Script.{AreFilesOf, IsConditionOf, IsRuleOf, condition_fault, rule_fault};
+ghost use Rattle.asm_script.specs.Script.{IsConditionOf, IsRuleOf, condition_fault, rule_fault};
 ghost use Rattle.avalla_command.specs.Acts.{IsAct, act_of};
 ghost use Rattle.avalla_prepare.specs.Prepared.{IsSetting, Tells, model_faults, set_faults};
 ghost use Rattle.avalla_prepare.specs.Parts as spec;
@@ -55,7 +54,7 @@ pub(crate) fn setting(over: &Over, set: &RawSet) -> Result<Command, ScenarioErro
 pub(crate) fn condition(over: &Over, term: &RawTerm) -> Result<Rc<Term>, ScenarioError>
     ensures faultless { IfOk result (λ t. model_faults over.now.file (condition_fault over.now.script.signature term.now) ≡ []) }
     ensures term { IfOk result (λ t. IsConditionOf over.now.script.signature term.now (plain t.value)) }
-    ensures sound { IfOk result (λ t. (units : List LoadedUnit) → AreFilesOf units over.now.script → IsCondition over.now.script (plain t.value)) }
+    ensures sound { IfOk result (λ t. IsCondition over.now.script (plain t.value)) }
     ensures fault { IfErr result (Tells (first_of (model_faults over.now.file (condition_fault over.now.script.signature term.now)))) }
 {
     match over.script.condition(term, over.file) {
@@ -68,7 +67,7 @@ pub(crate) fn condition(over: &Over, term: &RawTerm) -> Result<Rc<Term>, Scenari
 pub(crate) fn rule(over: &Over, rule: &RawRule) -> Result<Rc<Rule>, ScenarioError>
     ensures faultless { IfOk result (λ r. model_faults over.now.file (rule_fault over.now.script rule.now) ≡ []) }
     ensures rule { IfOk result (λ r. IsRuleOf over.now.script over.now.file rule.now (plain_rule r.value)) }
-    ensures sound { IfOk result (λ r. (units : List LoadedUnit) → AreFilesOf units over.now.script → IsRule over.now.script (plain_rule r.value)) }
+    ensures sound { IfOk result (λ r. IsRule over.now.script (plain_rule r.value)) }
     ensures fault { IfErr result (Tells (first_of (model_faults over.now.file (rule_fault over.now.script rule.now)))) }
 {
     match over.script.rule(rule, over.file) {

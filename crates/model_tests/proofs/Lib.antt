@@ -1,2 +1,3 @@
+mod Declared
 pub mod TriedModels
 pub mod TriedRules

@@ -1,5 +1,5 @@
 -- Models of dynamic functions alone, as the tests have.
-use Rattle.std.proofs.Common.{◌≡◌, ℕ, zero, suc, ◌≤◌, true, List, [], ◌∷◌, map, length, slice_get, Some, None, All, ℤ, pos, refl, sym, subst, arith}
+use Rattle.std.proofs.Common.{◌≡◌, ℕ, zero, suc, ◌≤◌, true, List, [], ◌∷◌, map, length, slice_get, Some, All, ℤ, refl, sym, subst, arith}
 use Rattle.std.specs.declared.alloc.Global.{Global}
 use Rattle.std.specs.declared.rc.Rc.{Rc}
 use Rattle.std.proofs.lemmas.Int.{ints}
@@ -7,7 +7,7 @@ use Rattle.asm_domain.specs.declared.interval.Interval.{Interval}
 use Rattle.asm_domain.specs.declared.value.Value.{Value}
 use Rattle.asm_domain.specs.declared.value.Value.TheVariants.{Undef, Bool, Int, Elem}
 use Rattle.asm_domain.specs.Interval.{IsWithin}
-use Rattle.asm_domain.specs.Universe.{Numbers, AreDistinct, numbers_between}
+use Rattle.asm_domain.specs.Universe.{AreDistinct}
 use Rattle.asm_source.specs.declared.sources.Place.{Place}
 use Rattle.asm_sign.specs.declared.function.DeclaredDomain.{DeclaredDomain}
 use Rattle.asm_sign.specs.declared.function.FunKind.TheVariants.{Controlled}
@@ -18,6 +18,7 @@ use Rattle.asm_node.specs.declared.definition.Definition as program
 use Rattle.asm_node.specs.declared.definition.MacroRule.{MacroRule}
 use Rattle.asm_node.specs.declared.rule.Rule as node
 use Rattle.asm_node.specs.declared.term.Term.{Term}
+use Rattle.asm_node.specs.Declarations.{AreDeclarations}
 use Rattle.asm_node.specs.Exact.{IsSmall}
 use Rattle.asm_node.specs.Machine.{Machine, Definition, has_kind}
 use Rattle.asm_node.specs.Parts.{defined_by, macro_by, machine_from}
@@ -28,6 +29,7 @@ use Rattle.asm_node.specs.declared.term_type.TermType.TheVariants.{Integer}
 use Rattle.asm_node.specs.Types.{IsConstant}
 use Rattle.asm_node.specs.Values.{whole}
 use Rattle.asm_node.specs.WellFormed.{IsDefinition, IsRule, IsWellFormed, any_kind, is_defined}
+use Rattle.model_tests.proofs.Declared.{numbers_declared, of_numbers, one_item}
 
 -- a machine without definitions, macro rules and invariants
 abbrev pub plain_machine : Vocabulary → List Definition → Rule → Machine
@@ -37,11 +39,12 @@ none_distinct : {A : Type 0} → AreDistinct {A = A} []
 none_distinct = record { one_place = λ i j x is js. absurd (cc is) }
 
 -- it is well formed where its functions are dynamic, and its initial terms and its main rule are well formed
-pub plain_formed : (v : Vocabulary) (ds : List Definition) (r : Rule) → length v.domains ≤ whole → All (IsDeclared v.domains) v.functions
+pub plain_formed : (v : Vocabulary) (ds : List Definition) (r : Rule) → length v.domains ≤ whole → AreDeclarations v → All (IsDeclared v.domains) v.functions
     → ((f : ℕ) (function : Function) → slice_get v.functions f ≡ Some function → is_dynamic function.kind ≡ true)
     → All (IsDefinition (plain_machine v ds r) is_kept (λ kind. is_defined)) ds → AreDistinct (map (λ (d : Definition). d.function) ds) → IsRule (plain_machine v ds r) r → IsWellFormed (plain_machine v ds r)
-plain_formed v ds r few functions dynamic initial_terms once main = record {
+plain_formed v ds r few declarations functions dynamic initial_terms once main = record {
   few_domains = few;
+  declarations = declarations;
   functions = functions;
   definitions = λ k d lt. absurd (omega (arith, lt));
   defined_once = none_distinct;
@@ -93,10 +96,7 @@ small_constant (Elem d k) domains typed = absurd (cc typed.0)
 -- ---- a function of some numbers, and its initial value
 
 abbrev pub one_function : Vocabulary
-one_function = record {
-  domains = record { name = None; domain = Numbers (numbers_between (pos 3) (pos 5)) } ∷ [];
-  functions = record { name = []; kind = Controlled; domains = []; codomain = 0 } ∷ [];
-}
+one_function = of_numbers
 
 abbrev pub starts_at : Value → Definition
 starts_at v = record { function = 0; parameters = []; body = Const v }
@@ -106,24 +106,16 @@ one_declared zero f lt = record { few = omega arith; declared = λ k n below. ab
 one_declared (suc k) f lt = absurd (omega (arith, lt))
 
 one_dynamic : (f : ℕ) (function : Function) → slice_get one_function.functions f ≡ Some function → is_dynamic function.kind ≡ true
-one_dynamic zero function is = let e : record { name = []; kind = Controlled; domains = []; codomain = 0 } ≡ function = cc is in subst (λ (g : Function). is_dynamic g.kind ≡ true) e refl
+one_dynamic zero function is = let e : record { name = []; kind = Controlled; domains = []; codomain = 1 } ≡ function = cc is in subst (λ (g : Function). is_dynamic g.kind ≡ true) e refl
 one_dynamic (suc f) function is = absurd (cc is)
-
-pub one_item : {A : Type 0} (x : A) → AreDistinct (x ∷ [])
-one_item {A = A} x = record { one_place = λ i j y is js. one i j y is js }
-  where
-    one : (i j : ℕ) (y : A) → slice_get (x ∷ []) i ≡ Some y → slice_get (x ∷ []) j ≡ Some y → i ≡ j
-    one zero zero y is js = refl
-    one zero (suc j) y is js = absurd (cc js)
-    one (suc i) j y is js = absurd (cc is)
 
 pub one_formed : (place : Place) (v : Value) → IsConstant [] v Integer → IsSmall v → IsWellFormed (plain_machine one_function (starts_at v ∷ []) (Skip place))
 one_formed place v typed small =
-    plain_formed one_function (starts_at v ∷ []) (Skip place) (omega arith) one_declared one_dynamic initial_terms (one_item 0) (record { typed = tt; ranged = tt })
+    plain_formed one_function (starts_at v ∷ []) (Skip place) (omega arith) numbers_declared one_declared one_dynamic initial_terms (one_item 0) (record { typed = tt; ranged = tt })
   where
     initial_terms : All (IsDefinition (plain_machine one_function (starts_at v ∷ []) (Skip place)) is_kept (λ kind. is_defined)) (starts_at v ∷ [])
     initial_terms zero d lt = record {
-      function = record { name = []; kind = Controlled; domains = []; codomain = 0 };
+      function = record { name = []; kind = Controlled; domains = []; codomain = 1 };
       is_function = refl;
       is_of_kind = refl;
       parameters = refl;

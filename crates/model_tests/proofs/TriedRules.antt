@@ -1,7 +1,6 @@
 -- The rule that the tests take, and that it is sound.
 use Rattle.std.proofs.Common.{◌≡◌, ℕ, zero, suc, true, List, [], ◌∷◌, slice_get, Some, None, All, refl, sym, subst, arith}
 use Rattle.asm_source.specs.declared.sources.Place.{Place}
-use Rattle.asm_domain.specs.Universe.{Truths}
 use Rattle.asm_domain.specs.declared.value.Value.{Value}
 use Rattle.asm_domain.specs.declared.value.Value.TheVariants.{Bool}
 use Rattle.asm_sign.specs.declared.function.FunKind.TheVariants.{Controlled}
@@ -15,14 +14,12 @@ use Rattle.asm_node.specs.Term.{nowhere, put_tuple}
 use Rattle.asm_node.specs.Tree.{Const, Var}
 use Rattle.asm_node.specs.Tree as tree
 use Rattle.asm_node.specs.WellFormed.{IsWellFormed}
+use Rattle.model_tests.proofs.Declared.{of_truths, truths_declared}
 use Rattle.model_tests.proofs.TriedModels.{plain_machine, plain_formed}
 use Rattle.asm_fire.specs.Sound.{IsEverExact, IsKept, HasDomain, IsSound}
 
 abbrev pub one_function : Vocabulary
-one_function = record {
-  domains = record { name = None; domain = Truths } ∷ [];
-  functions = record { name = []; kind = Controlled; domains = []; codomain = 0 } ∷ [];
-}
+one_function = of_truths
 
 abbrev pub binders : List Binder
 binders = record { variable = 0; domain = 0 } ∷ []
@@ -46,7 +43,7 @@ one_dynamic (suc f) function is = absurd (cc is)
 
 pub one_formed : (place : Place) → IsWellFormed (plain_machine one_function [] (Skip place))
 one_formed place =
-    plain_formed one_function [] (Skip place) (omega arith) one_declared one_dynamic (λ k d lt. absurd (omega (arith, lt))) (record { one_place = λ i j x is js. absurd (cc is) }) (record { typed = tt; ranged = tt })
+    plain_formed one_function [] (Skip place) (omega arith) truths_declared one_declared one_dynamic (λ k d lt. absurd (omega (arith, lt))) (record { one_place = λ i j x is js. absurd (cc is) }) (record { typed = tt; ranged = tt })
 
 module _ (m : Machine) (i : Input) (is : m.signature ≡ one_function) where
   kept : IsKept m 0

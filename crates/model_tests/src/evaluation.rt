@@ -1,5 +1,5 @@
-ghost use Rattle.std.specs.Prelude.{◌≡◌, [], ◌∷◌, IfOk, None, pos};
-ghost use Rattle.asm_domain.specs.Universe.{Numbers, numbers_between};
+ghost use Rattle.std.specs.Prelude.{◌≡◌, [], ◌∷◌, IfOk, None, Some, pos};
+ghost use Rattle.asm_domain.specs.Universe.{Numbers, Truths, numbers_between};
 ghost use Rattle.asm_node.specs.declared.rule.RuleKind as form;
 ghost use Rattle.asm_node.specs.declared.term.TermKind as kind;
 ghost use Rattle.asm_node.specs.Exact.{IsSmall};
@@ -34,7 +34,7 @@ fn node(alloc: Global, kind: TermKind) -> Result<Rc<Term>, AllocError>
 fn binders(alloc: Global) -> Result<Listed<Binder>, AllocError> {
     let binder = Binder {
         variable: 0,
-        domain: 0,
+        domain: 1,
     };
     Ok(Listed::from_vec(vec![in alloc; binder]?))
 }
@@ -70,9 +70,9 @@ fn skip(pool: &mut Pool) -> Result<Rc<Rule>, AllocError>
     pool.rule(RuleKind::Skip(PLACE))
 }
 
-// The numbers from 3 to 5, and a controlled function of them without arguments.
+// The truth values and the numbers from 3 to 5, and a controlled function of them without arguments.
 fn signature_of(alloc: Global) -> Result<Signature, AllocError>
-    ensures { IfOk result (λ s. s ≡ record { domains = record { name = None; domain = Numbers (numbers_between (pos 3) (pos 5)) } ∷ []; functions = record { name = []; kind = FunKind.Controlled; domains = []; codomain = 0 } ∷ [] }) }
+    ensures { IfOk result (λ s. s ≡ record { domains = record { name = None; domain = Truths } ∷ record { name = Some []; domain = Numbers (numbers_between (pos 3) (pos 5)) } ∷ []; functions = record { name = []; kind = FunKind.Controlled; domains = []; codomain = 1 } ∷ [] }) }
 {
     match Domain::range(3, 5) {
         Ok(domain) => one_function(alloc, domain),
@@ -80,17 +80,25 @@ fn signature_of(alloc: Global) -> Result<Signature, AllocError>
     }
 }
 
-// A domain, and a controlled function of its elements without arguments.
+// The truth values and a domain, and a controlled function of the domain's elements without arguments.
 fn one_function(alloc: Global, domain: Domain) -> Result<Signature, AllocError>
     requires { domain ≡ Numbers (numbers_between (pos 3) (pos 5)) }
-    ensures { IfOk result (λ s. s ≡ record { domains = record { name = None; domain = Numbers (numbers_between (pos 3) (pos 5)) } ∷ []; functions = record { name = []; kind = FunKind.Controlled; domains = []; codomain = 0 } ∷ [] }) }
+    ensures { IfOk result (λ s. s ≡ record { domains = record { name = None; domain = Truths } ∷ record { name = Some []; domain = Numbers (numbers_between (pos 3) (pos 5)) } ∷ []; functions = record { name = []; kind = FunKind.Controlled; domains = []; codomain = 1 } ∷ [] }) }
 {
-    let domains = Domains::from_vec(vec![in alloc; DeclaredDomain { name: None, domain }]?);
+    let truths = DeclaredDomain {
+        name: None,
+        domain: Domain::boolean(),
+    };
+    let numbers = DeclaredDomain {
+        name: Some(Name::new(alloc)),
+        domain,
+    };
+    let domains = Domains::from_vec(vec![in alloc; truths, numbers]?);
     let function = Function {
         name: Name::new(alloc),
         kind: FunKind::Controlled,
         domains: Listed::new(alloc),
-        codomain: 0,
+        codomain: 1,
     };
     let functions = Functions::from_vec(vec![in alloc; function]?);
     Signature::new(alloc, domains, functions)
@@ -112,7 +120,7 @@ fn starting(alloc: Global, term: Rc<Term>) -> Result<InitialTerms, AllocError>
 fn model_of(alloc: Global, value: Value) -> Result<Model, AllocError>
     requires typed { IsConstant [] value Integer }
     requires small { IsSmall value }
-    ensures { IfOk result (λ m. (machine_of m).signature ≡ record { domains = record { name = None; domain = Numbers (numbers_between (pos 3) (pos 5)) } ∷ []; functions = record { name = []; kind = FunKind.Controlled; domains = []; codomain = 0 } ∷ [] }) }
+    ensures { IfOk result (λ m. (machine_of m).signature ≡ record { domains = record { name = None; domain = Truths } ∷ record { name = Some []; domain = Numbers (numbers_between (pos 3) (pos 5)) } ∷ []; functions = record { name = []; kind = FunKind.Controlled; domains = []; codomain = 1 } ∷ [] }) }
 {
     let signature = signature_of(alloc)?;
     let mut pool = Pool::new(alloc);

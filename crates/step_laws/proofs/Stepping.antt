@@ -23,7 +23,7 @@ use Rattle.asm_node.proofs.UpdateSets.{of_list, pair_total, pair_apart}
 use Rattle.asm_update.specs.Clash.{HaveLocations, first_pair}
 use Rattle.asm_update.proofs.Clashes.{IsQuiet, clash_from-none}
 use Rattle.asm_update.proofs.Differing.{filtered_differ, one_value, consistent_without_clash}
-use Rattle.step_laws.specs.Stepping.{AreDomains}
+use Rattle.asm_laws.proofs.Differing.{tuples_differ, values_differ}
 use Rattle.asm_laws.proofs.Filling.{shared_state}
 
 module _ (m : Machine) (s : State) (i : Input) where
@@ -69,13 +69,13 @@ module _ (m : Machine) (u : UpdateSet) where
       (consistent_without_clash m.signature (set.items u) (subst (HaveLocations m.signature) (sym (same_items u)) (have_locations m u kept)) (ap (clash m.signature) (same_items u) ∙ none))
 
 -- a step under some choices is the next state under some words, which are all taken
-pub words_of : (m : Machine) (s : State) (i : Input) (t : State) → AreDomains m → Steps m s i t → (words : List ℕ) × (next m s i words m.main ≡ Ok (t, []))
-words_of m s i t domains p =
+pub words_of : (m : Machine) (s : State) (i : Input) (t : State) → IsWellFormed m → Steps m s i t → (words : List ℕ) × (next m s i words m.main ≡ Ok (t, []))
+words_of m s i t formed p =
     let k : GivesByWords (world_at m s i) m.main p.updates = by_some_words m s i t p in
     let gives : outcome by_words (world_at m s i) m.main k.words ≡ Yields p.updates [] = ap (outcome by_words (world_at m s i) m.main) (sym (append-nil k.words)) ∙ k.gives [] in (
       k.words,
       ap (ended (world_at m s i)) gives
-          ∙ ap (after (world_at m s i) p.updates []) (no_clash m p.updates domains.values p.is_consistent)
+          ∙ ap (after (world_at m s i) p.updates []) (no_clash m p.updates (values_differ m formed) p.is_consistent)
           ∙ ap (λ (s : State). reached s) p.next_is,
     )
   where
@@ -83,8 +83,8 @@ words_of m s i t domains p =
     reached s = Ok (s, [])
 
 -- the next state under some words, from a state under an input of its model, is a step under some choices
-pub choices_of : (m : Machine) (s : State) (i : Input) (t : State) (words rest : List ℕ) → IsWellFormed m → AreDomains m → IsInput m i → IsState m s → next m s i words m.main ≡ Ok (t, rest) → Steps m s i t
-choices_of m s i t words rest formed domains input state is = go (outcome by_words (world_at m s i) m.main words) refl is
+pub choices_of : (m : Machine) (s : State) (i : Input) (t : State) (words rest : List ℕ) → IsWellFormed m → IsInput m i → IsState m s → next m s i words m.main ≡ Ok (t, rest) → Steps m s i t
+choices_of m s i t words rest formed input state is = go (outcome by_words (world_at m s i) m.main words) refl is
   where
     state_or : State → Result (State × List ℕ) Stop → State
     state_or s (Ok p) = p.0
@@ -96,7 +96,7 @@ choices_of m s i t words rest formed domains input state is = go (outcome by_wor
 
     made : (u : UpdateSet) (left : List ℕ) (c : Option (ℕ × Value × Value)) → outcome by_words (world_at m s i) m.main words ≡ Yields u left → clash m.signature u ≡ c → after (world_at m s i) u left c ≡ Ok (t, rest) → Steps m s i t
     made u left None gives none ends =
-        let q : GivesByPaths (world_at m s i) m.main u = paths_for (world_at m s i) m.main u words left domains.tuples gives in
+        let q : GivesByPaths (world_at m s i) m.main u = paths_for (world_at m s i) m.main u words left (tuples_differ m formed) gives in
         record {
           choosing = q.choosing;
           updates = u;

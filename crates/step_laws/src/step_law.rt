@@ -3,7 +3,7 @@ ghost use Rattle.std.specs.Prelude.{◌≡◌, ℕ, List, [], Ok, All};
 ghost use Rattle.asm_node.specs.Machine.{Machine, State, Input};
 ghost use Rattle.asm_node.specs.Step.{IsState, IsInput, IsRun, Steps, initial, next};
 ghost use Rattle.asm_node.specs.WellFormed.{IsWellFormed};
-ghost use Rattle.step_laws.specs.Stepping.{AreDomains, Leads};
+ghost use Rattle.step_laws.specs.Stepping.{Leads};
 ghost use Rattle.asm_node.specs.Taking.{Choosing};
 
 /// The initial state is a state.
@@ -18,12 +18,12 @@ pub fn steps_lead_to_states()
     ensures { (m : Machine) → IsWellFormed m → (s : State) (i : Input) (t : State) → IsState m s → IsInput m i → Steps m s i t → IsState m t }
 {}
 
-/// A step under some choices is the next state under some words, which are all taken, and the next state under any words is
-/// a step under some choices.
+/// In a well-formed model a step under some choices is the next state under some words, which are all taken, and the next
+/// state under any words is a step under some choices.
 #[tactic(auto, using(crate::proofs::Stepping::words_of, crate::proofs::Stepping::choices_of))]
 pub fn words_are_steps()
-    ensures words { (m : Machine) (s : State) (i : Input) (t : State) → AreDomains m → Steps m s i t → (words : List ℕ) × (next m s i words m.main ≡ Ok (t, [])) }
-    ensures choices { (m : Machine) (s : State) (i : Input) (t : State) (words rest : List ℕ) → IsWellFormed m → AreDomains m → IsInput m i → IsState m s → next m s i words m.main ≡ Ok (t, rest) → Steps m s i t }
+    ensures words { (m : Machine) (s : State) (i : Input) (t : State) → IsWellFormed m → Steps m s i t → (words : List ℕ) × (next m s i words m.main ≡ Ok (t, [])) }
+    ensures choices { (m : Machine) (s : State) (i : Input) (t : State) (words rest : List ℕ) → IsWellFormed m → IsInput m i → IsState m s → next m s i words m.main ≡ Ok (t, rest) → Steps m s i t }
 {}
 
 /// The states of a run of a well-formed model are states.

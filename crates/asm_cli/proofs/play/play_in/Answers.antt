@@ -11,7 +11,7 @@ use Rattle.asm_cli.proofs.Playing.{prepared_played, prepared_wrong}
 use Rattle.asm_cli.proofs.play.play_in.Goals as goal
 
 pub play_prepared-requires-clause-acts : goal.play_prepared-requires-clause-acts
-play_prepared-requires-clause-acts g c = c.in-Ok.ensures.sound c.args.units.now (record { is_model = c.requires.model; no_fault = c.requires.faultless })
+play_prepared-requires-clause-acts g c = c.in-Ok.ensures.sound
 
 pub returns-in-Ok : goal.returns-in-Ok
 returns-in-Ok g c =

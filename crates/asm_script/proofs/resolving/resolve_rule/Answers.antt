@@ -1,10 +1,9 @@
-use Rattle.std.proofs.Common.{◌≡◌, List, None, subst}
+use Rattle.std.proofs.Common.{◌≡◌, None, subst}
 use Rattle.std.specs.Prelude.{IfOk, IfErr}
 use Rattle.asm_node.specs.Machine.{Machine}
 use Rattle.asm_node.specs.RuleTree.{plain_rule}
 use Rattle.asm_node.specs.WellFormed.{IsRule}
-use Rattle.asm_tree.specs.declared.unit.LoadedUnit.{LoadedUnit}
-use Rattle.asm_script.specs.Script.{AreFilesOf, IsRuleOf, Tells, rule_fault}
+use Rattle.asm_script.specs.Script.{IsRuleOf, Tells, rule_fault}
 use Rattle.asm_script.proofs.resolving.resolve_rule.Goals as goal
 
 pub returns-clause-faultless : goal.returns-clause-faultless
@@ -15,7 +14,7 @@ returns-clause-rule c = subst (λ (m : Machine). IfOk c.rule.result (λ r. IsRul
 
 pub returns-clause-sound : goal.returns-clause-sound
 returns-clause-sound c =
-    subst (λ (m : Machine). IfOk c.rule.result (λ r. (units : List LoadedUnit) → AreFilesOf units m → IsRule m (plain_rule r.value))) c.in_ok-script.ensures c.rule.ensures.sound
+    subst (λ (m : Machine). IfOk c.rule.result (λ r. IsRule m (plain_rule r.value))) c.in_ok-script.ensures c.rule.ensures.sound
 
 pub returns-clause-fault : goal.returns-clause-fault
 returns-clause-fault c = subst (λ (m : Machine). IfErr c.rule.result (Tells c.args.file (rule_fault m c.args.raw.now))) c.in_ok-script.ensures c.rule.ensures.fault

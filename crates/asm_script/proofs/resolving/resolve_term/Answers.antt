@@ -1,10 +1,9 @@
-use Rattle.std.proofs.Common.{◌≡◌, List, None, subst}
+use Rattle.std.proofs.Common.{◌≡◌, None, subst}
 use Rattle.std.specs.Prelude.{IfOk, IfErr}
 use Rattle.asm_node.specs.Machine.{Machine}
 use Rattle.asm_node.specs.Tree.{plain}
 use Rattle.asm_node.specs.WellFormed.{IsCondition}
-use Rattle.asm_tree.specs.declared.unit.LoadedUnit.{LoadedUnit}
-use Rattle.asm_script.specs.Script.{AreFilesOf, IsConditionOf, Tells, condition_fault}
+use Rattle.asm_script.specs.Script.{IsConditionOf, Tells, condition_fault}
 use Rattle.asm_script.proofs.resolving.resolve_term.Goals as goal
 
 pub returns-clause-faultless : goal.returns-clause-faultless
@@ -15,7 +14,7 @@ returns-clause-term c = subst (λ (m : Machine). IfOk c.condition.result (λ t. 
 
 pub returns-clause-sound : goal.returns-clause-sound
 returns-clause-sound c =
-    subst (λ (m : Machine). IfOk c.condition.result (λ t. (units : List LoadedUnit) → AreFilesOf units m → IsCondition m (plain t.value))) c.in_ok-script.ensures c.condition.ensures.sound
+    subst (λ (m : Machine). IfOk c.condition.result (λ t. IsCondition m (plain t.value))) c.in_ok-script.ensures c.condition.ensures.sound
 
 pub returns-clause-fault : goal.returns-clause-fault
 returns-clause-fault c = subst (λ (m : Machine). IfErr c.condition.result (Tells c.args.file (condition_fault m.signature c.args.raw.now))) c.in_ok-script.ensures c.condition.ensures.fault

@@ -8,10 +8,10 @@ use Rattle.avalla_prepare.proofs.Growing.{as_many}
 use Rattle.avalla_prepare.proofs.preparing.prepare.Goals as goal
 
 pub returns-in_ok-unfolded-in-None-clause-sound : goal.returns-in_ok-unfolded-in-None-clause-sound
-returns-in_ok-unfolded-in-None-clause-sound c units files =
+returns-in_ok-unfolded-in-None-clause-sound c =
     let m = machine_of c.args.model.now in
     let grown = c.in_ok-unfolded-in-None.ensures.grows in
-    All-same (IsAct m) (acts_of c.in_ok-unfolded-in-None.field-0) grown.more grown.acts_are (grown.sound units files (All-nil (IsAct m)))
+    All-same (IsAct m) (acts_of c.in_ok-unfolded-in-None.field-0) grown.more grown.acts_are (grown.sound (All-nil (IsAct m)))
 
 pub returns-in_ok-unfolded-in-None-clause-few : goal.returns-in_ok-unfolded-in-None-clause-few
 returns-in_ok-unfolded-in-None-clause-few c =

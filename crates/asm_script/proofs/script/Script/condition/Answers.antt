@@ -1,12 +1,11 @@
-use Rattle.std.proofs.Common.{◌≡◌, ◌≤◌, length, None, sym, ap, subst, ◌∙◌}
+use Rattle.std.proofs.Common.{◌≡◌, None, sym, ap, subst, ◌∙◌}
 use Rattle.std.specs.Prelude.{IfOk, IfErr}
 use Rattle.asm_sign.specs.Vocabulary.{Vocabulary}
 use Rattle.asm_node.specs.Machine.{Machine}
 use Rattle.asm_node.specs.Tree.{plain}
-use Rattle.asm_node.specs.Values.{whole}
 use Rattle.asm_script.specs.Script.{IsConditionOf, Tells, condition_fault}
 use Rattle.asm_script.proofs.Answering.{condition_answered}
-use Rattle.asm_script.proofs.Few.{few_domains}
+use Rattle.asm_script.proofs.Keeping.{IsKept, kept}
 use Rattle.asm_script.proofs.script.Script.condition.Goals as goal
 
 pub condition_of-requires : goal.condition_of-requires
@@ -27,8 +26,8 @@ returns-clause-sound c =
     let m = c.args.self.now in
     let raw = c.args.raw.now in
     let same = c.self.invariant.known_are ∙ ap (λ (m : Machine). m.signature) c.self.view_is in
-    let few : length m.signature.domains ≤ whole = subst (λ (n : Machine). length n.signature.domains ≤ whole) c.self.view_is (few_domains c.self.inside.model.now) in
-    condition_answered m raw c.condition_of.result few
+    let is_kept : IsKept m = subst IsKept c.self.view_is (kept c.self.inside.model.now) in
+    condition_answered m raw c.condition_of.result is_kept
     (subst (λ (v : Vocabulary). IfOk c.condition_of.result (λ t. condition_fault v raw ≡ None)) same c.condition_of.ensures.faultless)
     (subst (λ (v : Vocabulary). IfOk c.condition_of.result (λ t. IsConditionOf v raw (plain t.value))) same c.condition_of.ensures.term)
 

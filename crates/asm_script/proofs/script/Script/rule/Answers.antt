@@ -1,11 +1,10 @@
-use Rattle.std.proofs.Common.{◌≡◌, ◌≤◌, length, None, sym, subst, ◌∙◌}
+use Rattle.std.proofs.Common.{◌≡◌, None, sym, subst, ◌∙◌}
 use Rattle.std.specs.Prelude.{IfOk, IfErr}
 use Rattle.asm_node.specs.Machine.{Machine}
 use Rattle.asm_node.specs.RuleTree.{plain_rule}
-use Rattle.asm_node.specs.Values.{whole}
 use Rattle.asm_script.specs.Script.{IsRuleOf, Tells}
 use Rattle.asm_script.proofs.Answering.{rule_answered}
-use Rattle.asm_script.proofs.Few.{few_domains}
+use Rattle.asm_script.proofs.Keeping.{IsKept, kept}
 use Rattle.asm_script.proofs.Tabling.{same_fault}
 use Rattle.asm_script.proofs.script.Script.rule.Goals as goal
 
@@ -26,8 +25,8 @@ returns-clause-sound c =
     let m = c.args.self.now in
     let raw = c.args.raw.now in
     let same = same_fault _ m _ _ _ _ raw c.self.invariant c.self.view_is in
-    let few : length m.signature.domains ≤ whole = subst (λ (n : Machine). length n.signature.domains ≤ whole) c.self.view_is (few_domains c.self.inside.model.now) in
-    rule_answered m c.args.file raw c.rule_of.result few
+    let is_kept : IsKept m = subst IsKept c.self.view_is (kept c.self.inside.model.now) in
+    rule_answered m c.args.file raw c.rule_of.result is_kept
     (subst (λ o. IfOk c.rule_of.result (λ r. o ≡ None)) same c.rule_of.ensures.faultless)
     (subst (λ (n : Machine). IfOk c.rule_of.result (λ r. IsRuleOf n c.args.file raw (plain_rule r.value))) c.self.view_is (c.rule_of.ensures.rule _ c.self.invariant.known_are c.self.invariant.names_are))
 

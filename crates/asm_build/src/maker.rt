@@ -34,13 +34,25 @@ impl Maker {
         }
     }
 
+    /// The nodes of a pool and no variable. It takes no memory.
+    pub fn over(alloc: Global, pool: Pool) -> Maker
+        ensures pool { result.pool ≡ pool }
+        ensures variables { result.variables ≡ [] }
+    {
+        Maker {
+            alloc,
+            pool,
+            variables: Table::new(alloc),
+        }
+    }
+
     /// Where further nodes take their memory.
     pub(crate) fn alloc(&self) -> Global {
         self.alloc
     }
 
     /// The nodes that were made.
-    pub(crate) fn into_pool(self) -> Pool
+    pub fn into_pool(self) -> Pool
         ensures { result ≡ self.pool }
     {
         let Maker {

@@ -101,3 +101,10 @@ pub record HasGrown (old new : Pool) : Type 0 where
   pub further : List Term
   pub terms : terms_of new ≡ terms_of old ++ further
   pub rules : rules_of new ≡ rules_of old
+
+-- a pool has further terms and rules after those that it had
+pub record HasFurther (old new : Pool) : Type 0 where
+  pub further_terms : List Term
+  pub terms : terms_of new ≡ terms_of old ++ further_terms
+  pub further_rules : List of_rule.Rule
+  pub rules : rules_of new ≡ rules_of old ++ further_rules

@@ -32,7 +32,7 @@ impl Model {
     ghost use Rattle.asm_node.specs.RuleTree.{plain_rule};
     ghost use Rattle.asm_node.specs.Machine.{definition_of};
     ghost use Rattle.asm_node.specs.Model.{defined_by, macro_by, machine_of, DiffersInPool};
-    ghost use Rattle.asm_node.specs.Pool.{terms_of, rules_of, HasRule, HasTerm, HasTerms, HasParts, TermsAreBefore, PartsAreBefore, HasGrown};
+    ghost use Rattle.asm_node.specs.Pool.{terms_of, rules_of, HasRule, HasTerm, HasTerms, HasParts, TermsAreBefore, PartsAreBefore, HasGrown, HasFurther};
     ghost use Rattle.asm_node.specs.Term.{World, value_of, calls_of, unbound, val, close};
 
     /// The model of these parts, which are well formed and nodes of the pool. It takes no memory.
@@ -112,6 +112,22 @@ impl Model {
         ensures { option_map defined_by (option_copied result) ≡ definition_of (machine_of self.now).initial_terms function }
     {
         find(self.initial_terms.slice(), function)
+    }
+
+    /// The nodes that were made for the model.
+    pub fn pool(&self) -> &Pool
+        ensures { result.now ≡ self.now.pool }
+    {
+        &self.pool
+    }
+
+    /// Takes a pool that has further nodes after those of the model in the place of the model's own.
+    pub fn grow_to(&mut self, pool: Pool)
+        requires { HasFurther self.old.pool pool }
+        ensures pool { self.new.pool ≡ pool }
+        ensures others { DiffersInPool self.old self.new }
+    {
+        self.pool = pool;
     }
 
     /// A new node for a term in the model's pool.

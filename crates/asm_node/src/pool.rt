@@ -1,4 +1,4 @@
-ghost use Rattle.std.specs.Prelude.{◌≡◌, [], ◌∷◌, ◌++◌, length, IfOk, OnErr};
+ghost use Rattle.std.specs.Prelude.{◌≡◌, [], ◌∷◌, ◌++◌, length, map, IfOk, OnErr};
 
 use crate::rule::{Rule, RuleKind};
 use crate::term::{Term, TermKind};
@@ -28,6 +28,21 @@ impl Pool {
             terms: Listed::new(alloc),
             rules: Listed::new(alloc),
         }
+    }
+
+    /// The same nodes in a pool of their own, which may get others.
+    pub fn copied(&self) -> Result<Pool, AllocError>
+        ensures terms { IfOk result (λ pool. terms_of pool ≡ terms_of self.now) }
+        ensures rules { IfOk result (λ pool. rules_of pool ≡ rules_of self.now) }
+    {
+        let alloc = self.alloc;
+        let terms = copied_terms(alloc, self.terms.slice())?;
+        let rules = copied_rules(alloc, self.rules.slice())?;
+        Ok(Pool {
+            alloc,
+            terms,
+            rules,
+        })
     }
 
     pub(crate) fn alloc(&self) -> Global {
@@ -63,4 +78,26 @@ impl Pool {
         self.rules.push(node.clone()?)?;
         Ok(node)
     }
+}
+
+fn copied_terms(alloc: Global, terms: &[Rc<Term>]) -> Result<Listed<Rc<Term>>, AllocError>
+    ensures { IfOk result (λ copied. map (λ t. t.value) copied ≡ map (λ t. t.value) terms.now) }
+{
+    let mut copied = Listed::new(alloc);
+    'terms: for term in terms {
+        let one = term.clone()?;
+        copied.push(one)?;
+    }
+    Ok(copied)
+}
+
+fn copied_rules(alloc: Global, rules: &[Rc<Rule>]) -> Result<Listed<Rc<Rule>>, AllocError>
+    ensures { IfOk result (λ copied. map (λ r. r.value) copied ≡ map (λ r. r.value) rules.now) }
+{
+    let mut copied = Listed::new(alloc);
+    'rules: for rule in rules {
+        let one = rule.clone()?;
+        copied.push(one)?;
+    }
+    Ok(copied)
 }

@@ -1,36 +1,16 @@
 -- What the tokens of an input file or of a scenario are.
-use Rattle.std.specs.Prelude.{◌≡◌, ◌≢◌, ℕ, true, List, length, Result, Ok, Err}
+use Rattle.std.specs.Prelude.{ℕ, List, Result}
 use Rattle.asm_lex.specs.declared.token.Token.{Token}
-use Rattle.asm_grammar.specs.declared.Stop.{Stop}
-use Rattle.asm_grammar.specs.Grammar.{Grammar}
-use Rattle.asm_grammar.specs.Whole.{whole_at}
 use Rattle.asm_tree.specs.declared.error.ParseError.{ParseError}
-use Rattle.asm_tree.specs.declared.error.ParseError.TheVariants.{Memory}
 use Rattle.asm_tree.specs.declared.script.RawInputs.{RawInputs}
 use Rattle.asm_tree.specs.declared.script.RawScenario.{RawScenario}
-use Rattle.asm_tree.specs.Language.{TokenText, models}
-use Rattle.asm_tree.specs.Rules.{body}
 use Rattle.asm_tree.specs.Scripts as language
-use Rattle.asm_tree.specs.Spelling.{limit, token_texts}
-use Rattle.asm_body.specs.Fronts.{error_of}
+use Rattle.whole_file.specs.Parsed.{parsed}
 
-abbrev pub parse_of : {A : Type 0} → List TokenText → Result A Stop → Result A ParseError
-parse_of ts (Ok tree) = Ok tree
-parse_of ts (Err e) = Err (error_of ts (length ts) e)
-
--- what the tokens of the text spell, or the first token with which no text goes on or that nests too deep
-unfoldable pub parsed : {A : Type 0} → Grammar models A → List ℕ → List Token → Result A ParseError
-parsed whole text tokens = parse_of (token_texts text tokens) (whole_at models (body true) whole limit (token_texts text tokens))
-
--- the same for input files
+-- what the tokens of the text spell as settings, or the first token with which no input file goes on or that nests too deep
 abbrev pub parsed_inputs : List ℕ → List Token → Result RawInputs ParseError
 parsed_inputs text tokens = parsed language.inputs text tokens
 
 -- the same for scenarios
 abbrev pub parsed_scenario : List ℕ → List Token → Result RawScenario ParseError
 parsed_scenario text tokens = parsed language.scenario text tokens
-
--- It is that answer, unless memory ran out.
-abbrev pub Parses : {A : Type 0} → Result A ParseError → Result A ParseError → Type 0
-Parses (Ok tree) o = o ≡ Ok tree
-Parses (Err e) o = e ≢ Memory → o ≡ Err e

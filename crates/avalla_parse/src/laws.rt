@@ -8,7 +8,7 @@ ghost use Rattle.asm_tree.specs.declared.error.ParseError.TheVariants.{Memory};
 ghost use Rattle.asm_tree.specs.declared.script.RawInputs.{RawInputs};
 ghost use Rattle.asm_tree.specs.declared.script.RawScenario.{RawScenario};
 ghost use Rattle.avalla_parse.specs.Parsed.{parsed_inputs, parsed_scenario};
-ghost use Rattle.avalla_parse.specs.Script.{IsTree, Explains};
+ghost use Rattle.whole_file.specs.Trees.{IsTree, Explains};
 
 /// The law that `parsed_inputs` gives the settings that tokens spell where they spell an input file, and the
 /// error that explains why they don't where they spell none; and that `parsed_scenario` does so for scenarios.

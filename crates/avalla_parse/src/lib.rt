@@ -11,4 +11,4 @@ mod step;
 mod whole;
 
 pub use laws::parsed_is_spelled;
-pub use parse::{explained, inputs, scenario};
+pub use parse::{inputs, scenario};

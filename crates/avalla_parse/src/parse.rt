@@ -1,25 +1,23 @@
 //! The calls that read an input file and a scenario.
 
 ghost use Rattle.std.specs.Prelude.{◌≡◌, ◌≢◌, ◌<◌, ◌^◌, length, Ok, IfOk, IfErr};
-ghost use Rattle.asm_body.specs.Fronts.{Counts, error_of};
-ghost use Rattle.asm_body.specs.Seen.{all_seen};
 ghost use Rattle.asm_lex.specs.Cut.{cut};
 ghost use Rattle.asm_tree.specs.Scripts as language;
 ghost use Rattle.asm_tree.specs.declared.error.ParseError.{ParseError};
 ghost use Rattle.asm_tree.specs.declared.error.ParseError.TheVariants.{Memory};
 ghost use Rattle.asm_tree.specs.declared.script.RawInputs.{RawInputs};
 ghost use Rattle.asm_tree.specs.declared.script.RawScenario.{RawScenario};
-ghost use Rattle.avalla_parse.specs.Parsed.{parsed_inputs, parsed_scenario, Parses};
-ghost use Rattle.avalla_parse.specs.Script.{IsTree, AgreesWith, Explains, RefusesWith};
+ghost use Rattle.avalla_parse.specs.Parsed.{parsed_inputs, parsed_scenario};
+ghost use Rattle.whole_file.specs.Parsed.{Parses};
+ghost use Rattle.whole_file.specs.Trees.{IsTree, AgreesWith, Explains, RefusesWith};
 
 use crate::whole::{whole_inputs, whole_scenario};
-use asm_body::{Lexeme, begins, lexemes};
-use asm_grammar::Stop;
+use asm_body::lexemes;
 use asm_lex::Token;
 use asm_tree::ParseError;
-use asm_tree::class::Class;
 use asm_tree::script::{RawInputs, RawScenario};
 use std::alloc::Global;
+use whole_file::explained;
 
 /// The settings that the tokens of an input file are.
 pub fn inputs(alloc: Global, text: &[u8], tokens: &[Token]) -> Result<RawInputs, ParseError>
@@ -84,25 +82,5 @@ fn read_scenario(alloc: Global, text: &[u8], tokens: &[Token]) -> Result<RawScen
     match whole_scenario(alloc, listed) {
         Ok(scenario) => Ok(scenario),
         Err(stop) => Err(explained(listed, stop)),
-    }
-}
-
-/// The error where reading stopped, which readers of other files take too.
-#[tactic(auto, using(asm_body::proofs::Parsing::stops))]
-pub fn explained(tokens: &[Lexeme], stop: Stop) -> ParseError
-    requires counts { Counts (length tokens.now) stop }
-    requires few { length tokens.now < 2 ^ 31 }
-    ensures { result ≡ error_of (all_seen tokens.now) (length tokens.now) stop }
-{
-    match stop {
-        Stop::Memory => ParseError::Memory,
-        Stop::Syntax(left) => {
-            if begins(&tokens[tokens.len() - left..], Class::Unsupported) {
-                ParseError::Unsupported((tokens.len() - left) as u32)
-            } else {
-                ParseError::Syntax((tokens.len() - left) as u32)
-            }
-        }
-        Stop::TooDeep(left) => ParseError::TooDeep((tokens.len() - left) as u32),
     }
 }

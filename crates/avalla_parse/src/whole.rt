@@ -19,7 +19,7 @@ use std::alloc::Global;
 const LIMIT: usize = 64;
 
 /// The settings that the tokens are.
-#[tactic(auto, using(crate::proofs::Ending::endings), unfolding(asm_grammar::specs::Whole::whole_at))]
+#[tactic(auto, using(whole_file::proofs::Ending::endings), unfolding(asm_grammar::specs::Whole::whole_at))]
 pub fn whole_inputs(alloc: Global, tokens: &[Lexeme]) -> Result<RawInputs, Stop>
     ensures { GivesWhole result (whole_at models (body true) scripts.inputs limit (all_seen tokens.now)) }
 {
@@ -32,7 +32,7 @@ pub fn whole_inputs(alloc: Global, tokens: &[Lexeme]) -> Result<RawInputs, Stop>
 }
 
 /// The scenario that the tokens are.
-#[tactic(auto, using(crate::proofs::Ending::endings), unfolding(asm_grammar::specs::Whole::whole_at))]
+#[tactic(auto, using(whole_file::proofs::Ending::endings), unfolding(asm_grammar::specs::Whole::whole_at))]
 pub fn whole_scenario(alloc: Global, tokens: &[Lexeme]) -> Result<RawScenario, Stop>
     ensures { GivesWhole result (whole_at models (body true) scripts.scenario limit (all_seen tokens.now)) }
 {

@@ -6,7 +6,7 @@ use Rattle.asm_tree.specs.declared.class.Class.TheVariants as class
 use Rattle.asm_tree.specs.declared.error.ParseError.{ParseError}
 use Rattle.asm_tree.specs.declared.term.RawName.{RawName}
 use Rattle.asm_tree.specs.Language.{models, after, before, name, functions}
-use Rattle.avalla_parse.specs.Parsed.{parsed}
+use Rattle.whole_file.specs.Parsed.{parsed}
 use Rattle.link_parse.specs.declared.tree.RawLink.{RawLink}
 use Rattle.link_parse.specs.declared.tree.RawLinks.{RawLinks}
 

@@ -4,7 +4,7 @@ ghost use Rattle.std.specs.Prelude.{◌≡◌, ◌≢◌, ◌↔◌, ℕ, List, 
 ghost use Rattle.asm_lex.specs.declared.token.Token.{Token};
 ghost use Rattle.asm_tree.specs.declared.error.ParseError.{ParseError};
 ghost use Rattle.asm_tree.specs.declared.error.ParseError.TheVariants.{Memory};
-ghost use Rattle.avalla_parse.specs.Script.{IsTree, Explains};
+ghost use Rattle.whole_file.specs.Trees.{IsTree, Explains};
 ghost use Rattle.link_parse.specs.Links.{links as link_files, parsed_links};
 ghost use Rattle.link_parse.specs.declared.tree.RawLinks.{RawLinks};
 

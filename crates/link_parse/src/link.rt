@@ -76,7 +76,7 @@ fn links_from(
 }
 
 /// The links that the tokens are.
-#[tactic(auto, using(avalla_parse::proofs::Ending::endings), unfolding(asm_grammar::specs::Whole::whole_at))]
+#[tactic(auto, using(whole_file::proofs::Ending::endings), unfolding(asm_grammar::specs::Whole::whole_at))]
 pub fn whole_links(alloc: Global, tokens: &[Lexeme]) -> Result<RawLinks, Stop>
     ensures { GivesWhole result (whole_at models (body true) language.links limit (all_seen tokens.now)) }
 {

@@ -4,8 +4,8 @@ ghost use Rattle.std.specs.Prelude.{◌≡◌, ◌≢◌, ◌<◌, ◌^◌, leng
 ghost use Rattle.asm_lex.specs.Cut.{cut};
 ghost use Rattle.asm_tree.specs.declared.error.ParseError.{ParseError};
 ghost use Rattle.asm_tree.specs.declared.error.ParseError.TheVariants.{Memory};
-ghost use Rattle.avalla_parse.specs.Parsed.{Parses};
-ghost use Rattle.avalla_parse.specs.Script.{IsTree, AgreesWith, Explains, RefusesWith};
+ghost use Rattle.whole_file.specs.Parsed.{Parses};
+ghost use Rattle.whole_file.specs.Trees.{IsTree, AgreesWith, Explains, RefusesWith};
 ghost use Rattle.link_parse.specs.Links.{links as link_files, parsed_links};
 ghost use Rattle.link_parse.specs.declared.tree.RawLinks.{RawLinks};
 
@@ -14,8 +14,8 @@ use crate::tree::RawLinks;
 use asm_body::lexemes;
 use asm_lex::Token;
 use asm_tree::ParseError;
-use avalla_parse::explained;
 use std::alloc::Global;
+use whole_file::explained;
 
 /// The links that the tokens of a link file are.
 pub fn link_file(alloc: Global, text: &[u8], tokens: &[Token]) -> Result<RawLinks, ParseError>

@@ -1,6 +1,6 @@
 use Rattle.asm_tree.specs.Scripts as scripts
 use Rattle.asm_tree.proofs.Wholes.{checked_inputs, checked_scenario}
-use Rattle.avalla_parse.proofs.Verdicts.{parsed_tree, tree_parsed, parsed_refused, refused_parsed}
+use Rattle.whole_file.proofs.Verdicts.{parsed_tree, tree_parsed, parsed_refused, refused_parsed}
 use Rattle.avalla_parse.proofs.laws.parsed_is_spelled.Goals as goal
 
 pub returns-clause-inputs : goal.returns-clause-inputs

@@ -3,7 +3,7 @@ use Rattle.asm_lex.proofs.Small.{small}
 use Rattle.asm_lex.proofs.Sound.{sound, count}
 use Rattle.asm_tree.specs.Scripts as scripts
 use Rattle.asm_tree.proofs.Wholes.{checked_scenario}
-use Rattle.avalla_parse.proofs.Lexemes.{read_tree, read_stop, counts_in, as_many}
+use Rattle.whole_file.proofs.Lexemes.{read_tree, read_stop, counts_in, as_many}
 use Rattle.avalla_parse.proofs.parse.read_scenario.Goals as goal
 
 pub lexemes-requires-clause-places : goal.lexemes-requires-clause-places

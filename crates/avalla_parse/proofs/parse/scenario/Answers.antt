@@ -1,6 +1,6 @@
 use Rattle.asm_tree.specs.Scripts as scripts
 use Rattle.asm_tree.proofs.Wholes.{checked_scenario}
-use Rattle.avalla_parse.proofs.Verdicts.{gives_tree, gives_only, gives_refused, gives_refuses}
+use Rattle.whole_file.proofs.Verdicts.{gives_tree, gives_only, gives_refused, gives_refuses}
 use Rattle.avalla_parse.proofs.parse.scenario.Goals as goal
 
 pub returns-clause-found : goal.returns-clause-found

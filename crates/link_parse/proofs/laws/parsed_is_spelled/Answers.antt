@@ -1,4 +1,4 @@
-use Rattle.avalla_parse.proofs.Verdicts.{parsed_tree, tree_parsed, parsed_refused, refused_parsed}
+use Rattle.whole_file.proofs.Verdicts.{parsed_tree, tree_parsed, parsed_refused, refused_parsed}
 use Rattle.link_parse.specs.Links.{links}
 use Rattle.link_parse.proofs.Checked.{checked_links}
 use Rattle.link_parse.proofs.laws.parsed_is_spelled.Goals as goal

@@ -1,6 +1,6 @@
 use Rattle.link_parse.specs.Links as language
 use Rattle.link_parse.proofs.Checked.{checked_links}
-use Rattle.avalla_parse.proofs.Verdicts.{gives_tree, gives_only, gives_refused, gives_refuses}
+use Rattle.whole_file.proofs.Verdicts.{gives_tree, gives_only, gives_refused, gives_refuses}
 use Rattle.link_parse.proofs.parse.link_file.Goals as goal
 
 pub returns-clause-found : goal.returns-clause-found

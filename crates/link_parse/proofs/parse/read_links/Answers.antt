@@ -3,7 +3,7 @@ use Rattle.asm_lex.proofs.Small.{small}
 use Rattle.asm_lex.proofs.Sound.{sound, count}
 use Rattle.link_parse.specs.Links as language
 use Rattle.link_parse.proofs.Checked.{checked_links}
-use Rattle.avalla_parse.proofs.Lexemes.{read_tree, read_stop, counts_in, as_many}
+use Rattle.whole_file.proofs.Lexemes.{read_tree, read_stop, counts_in, as_many}
 use Rattle.link_parse.proofs.parse.read_links.Goals as goal
 
 pub lexemes-requires-clause-places : goal.lexemes-requires-clause-places

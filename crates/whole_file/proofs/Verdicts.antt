@@ -16,8 +16,8 @@ use Rattle.asm_tree.specs.Rules.{body}
 use Rattle.asm_tree.specs.Spelling.{limit, token_texts}
 use Rattle.asm_tree.proofs.Checks.{table, late}
 use Rattle.asm_body.specs.Fronts.{left_out, error_of, Counts}
-use Rattle.avalla_parse.specs.Parsed.{parse_of, parsed, Parses}
-use Rattle.avalla_parse.specs.Script.{IsTree, IsRefusedAt, Explains, AgreesWith, RefusesWith}
+use Rattle.whole_file.specs.Parsed.{parse_of, parsed, Parses}
+use Rattle.whole_file.specs.Trees.{IsTree, IsRefusedAt, Explains, AgreesWith, RefusesWith}
 
 module _ {A : Type 0} (g : Grammar models A) (c : CheckedWhole models (body true) g table late) where
   abbrev pub whole_of : List TokenText → Result A Stop

@@ -1,4 +1,4 @@
--- What it is to be an input file or a scenario, and why tokens are none.
+-- What it is to be a file of a grammar, and why tokens are none.
 use Rattle.std.specs.Prelude.{◌≡◌, ◌⊎◌, ℕ, List, drop, true, false, Result, Ok, Err}
 use Rattle.asm_grammar.specs.Grammar.{Grammar}
 use Rattle.asm_grammar.specs.Text.{IsText, IsRefused, IsTooDeep}

@@ -16,8 +16,8 @@ use Rattle.asm_tree.proofs.Checks.{table, late}
 use Rattle.asm_body.specs.declared.lexeme.Lexeme.{Lexeme}
 use Rattle.asm_body.specs.Fronts.{error_of, Counts}
 use Rattle.asm_body.specs.Seen.{seen, all_seen}
-use Rattle.avalla_parse.specs.Parsed.{parse_of, parsed}
-use Rattle.avalla_parse.proofs.Verdicts.{whole_of, counts}
+use Rattle.whole_file.specs.Parsed.{parse_of, parsed}
+use Rattle.whole_file.proofs.Verdicts.{whole_of, counts}
 
 module _ {A : Type 0} (g : Grammar models A) (c : CheckedWhole models (body true) g table late) (text : List ℕ) (ts : List Token) (xs : List Lexeme) (same : all_seen xs ≡ token_texts text ts) where
   given : (o : Result A Stop) → whole_of g c (all_seen xs) ≡ o → whole_of g c (token_texts text ts) ≡ o

@@ -1,0 +1,3 @@
+pub mod Ending
+pub mod Lexemes
+pub mod Verdicts

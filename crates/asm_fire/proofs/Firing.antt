@@ -2,7 +2,7 @@
 use Rattle.std.proofs.Common.{add-one, drop-cons, ◌≡◌, ℕ, zero, suc, ◌+◌, ◌-◌, ◌*◌, ◌≤◌, ◌<◌, Bool as Truth, true, false, true≢false, nat_eq, is_some, List, [], ◌∷◌, ◌++◌, Option, Some, None, length, drop, slice_get, get_or, if◌then◌else◌, refl, sym, ap, ◌∙◌, subst, arith}
 use Prim.Native.Nat.{min}
 use mathlib.Core.Former.{Count}
-use Rattle.std.specs.Prelude.{IsNone}
+use Rattle.std.specs.Prelude.{IsNone, Result, Ok, Err, IfOk}
 use Rattle.std.specs.FinSet as set
 use Rattle.std.specs.declared.rc.Rc.{Rc}
 use Rattle.std.specs.declared.alloc.Global.{Global}
@@ -23,13 +23,14 @@ use Rattle.asm_node.specs.Machine.{Machine, Macro, slot_at}
 use Rattle.asm_node.specs.Machine as machine
 use Rattle.asm_node.specs.Term.{World, Outcome, Gives, Needs, Places, nowhere, branch}
 use Rattle.asm_node.specs.UpdateSet.{UpdateSet, consistent, override}
-use Rattle.asm_node.specs.Taking.{Attempt, Yields, Faults, Path, Bodies, and_then, evaluated, update, updated, each, candidates, chosen, taken, taken_all, after_set, bodies_within, body_taken, by_words, stand_for}
+use Rattle.asm_node.specs.Taking.{Attempt, Yields, Faults, Path, Pick, Bodies, and_then, evaluated, update, updated, each, candidates, chosen, taken, taken_all, after_set, bodies_within, body_taken, stand_for}
 use Rattle.asm_eval.specs.declared.error.EvalError.{EvalError}
 use Rattle.asm_eval.specs.declared.error.EvalError.TheVariants.{Need, Memory}
 use Rattle.asm_eval.specs.Answer.{Ends}
 use Rattle.asm_fire.specs.declared.error.FireError.{FireError}
 use Rattle.asm_fire.specs.declared.error.FireError.TheVariants as halt
 use Rattle.asm_fire.specs.Answer.{Halts}
+use Rattle.asm_fire.specs.Chooser.{Ways, Stay}
 use Rattle.asm_fire.specs.Fault.{fire_error}
 use Rattle.asm_fire.specs.Guard.{truth_of}
 use Rattle.asm_fire.specs.Sound.{OfBodies, IsSoundIn, AreSoundIn, sound_within, IsSoundBody}
@@ -45,6 +46,19 @@ row_of _ = (_, end_of-RuleKind-Par-1-1)
 
 pub plain_kind-Par : (place : Place) (rs : List (Rc program.Rule Global)) → plain_kind (node.Par place rs) ≡ Par place (plain_rules rs)
 plain_kind-Par place rs = ap (Par place) (plain_row-items (row_of (node.Par place rs)).1 ∙ ap plain_rules (items_hidden-the_row-RuleKind-Par-1-1-0 rs))
+
+-- a fact of every answer that is no error
+pub ok_any : {A E : Type 0} {P : Type 0} (r : Result A E) → P → IfOk r (λ _. P)
+ok_any (Ok x) p = p
+ok_any (Err e) p = tt
+
+pub ok_err : {A E : Type 0} (P : A → Type 0) (e : E) (r : Result A E) → r ≡ Err e → IfOk r P
+ok_err {A} {E} P e r is = subst (λ (q : Result A E). IfOk q P) (sym is) tt
+
+-- what was stood for before two calls is stood for after them
+pub ok_then : {A E : Type 0} (first second third : Ways) (r : Result A E) → Stay first second → IfOk r (λ _. Stay second third) → IfOk r (λ _. Stay first third)
+ok_then first second third (Ok x) before after = λ pick path is. after pick path (before pick path is)
+ok_then first second third (Err e) before after = tt
 
 -- a fault ends the attempt
 pub halts : {A B : Type 0} (e : FireError) (words : List ℕ) (a : Attempt (List ℕ) A) (f : A → List ℕ → Attempt (List ℕ) B) → Halts e words a → Halts e words (and_then a f)
@@ -118,17 +132,17 @@ macro-room (x ∷ ms) zero m is = let e : m ≡ x = cc in rw e (omega arith)
 macro-room (x ∷ ms) (suc i) m is = omega (arith, macro-room ms i m is)
 
 -- a macro rule is entered
-pub bodies-enter : (n f : ℕ) (path : Path) (m : Macro) (w : World) (e : Places) (ts : Trees) (words : List ℕ) → 0 < n → Some m ≡ slice_get w.machine.rules f
-    → bodies_within by_words n f path w e ts words ≡ taken by_words (bodies_within by_words (n - 1)) path w (stand_for m.parameters e ts) m.body words
-bodies-enter zero f path m w e ts words some is = absurd (omega arith)
-bodies-enter (suc n) f path m w e ts words some is =
+pub bodies-enter : (pick : Pick (List ℕ)) (n f : ℕ) (path : Path) (m : Macro) (w : World) (e : Places) (ts : Trees) (words : List ℕ) → 0 < n → Some m ≡ slice_get w.machine.rules f
+    → bodies_within pick n f path w e ts words ≡ taken pick (bodies_within pick (n - 1)) path w (stand_for m.parameters e ts) m.body words
+bodies-enter pick zero f path m w e ts words some is = absurd (omega arith)
+bodies-enter pick (suc n) f path m w e ts words some is =
     let down : suc n - 1 ≡ n = omega arith in
-    ap (λ o. body_taken by_words (bodies_within by_words n) path w e o ts words) (sym is)
-    ∙ ap (λ k. taken by_words (bodies_within by_words k) path w (stand_for m.parameters e ts) m.body words) (sym down)
+    ap (λ o. body_taken pick (bodies_within pick n) path w e o ts words) (sym is)
+    ∙ ap (λ k. taken pick (bodies_within pick k) path w (stand_for m.parameters e ts) m.body words) (sym down)
 
-pub bodies-none : (n f : ℕ) (path : Path) (w : World) (e : Places) (ts : Trees) (words : List ℕ) → None ≡ slice_get w.machine.rules f → bodies_within by_words n f path w e ts words ≡ Yields set.empty words
-bodies-none zero f path w e ts words is = refl
-bodies-none (suc n) f path w e ts words is = ap (λ o. body_taken by_words (bodies_within by_words n) path w e o ts words) (sym is)
+pub bodies-none : (pick : Pick (List ℕ)) (n f : ℕ) (path : Path) (w : World) (e : Places) (ts : Trees) (words : List ℕ) → None ≡ slice_get w.machine.rules f → bodies_within pick n f path w e ts words ≡ Yields set.empty words
+bodies-none pick zero f path w e ts words is = refl
+bodies-none pick (suc n) f path w e ts words is = ap (λ o. body_taken pick (bodies_within pick n) path w e o ts words) (sym is)
 
 pub sound-enter : (m : Machine) (i : machine.Input) (n f : ℕ) (macro : Macro) (e : Places) (ts : Trees) → 0 < n → Some macro ≡ slice_get m.rules f → sound_within m i n f e ts → IsSoundIn m i (sound_within m i (n - 1)) (stand_for macro.parameters e ts) macro.body
 sound-enter m i zero f macro e ts some is sound = absurd (omega arith)
@@ -141,9 +155,9 @@ sound-item m i of_bodies e [] k r lt is sound = absurd (omega arith)
 sound-item m i of_bodies e (x ∷ rs) zero r lt is sound = subst (λ y. IsSoundIn m i of_bodies e (plain_rule y.value)) (sym is) sound.0
 sound-item m i of_bodies e (x ∷ rs) (suc k) r lt is sound = sound-item m i of_bodies e rs k r (omega arith) is sound.1
 
-pub taken_all-drop : (bodies : Bodies (List ℕ)) (path : Path) (k : ℕ) (w : World) (e : Places) (rs : List (Rc program.Rule Global)) (i : ℕ) (r : Rc program.Rule Global) (u : UpdateSet) (words : List ℕ) → i < length rs → r ≡ get_or rs i r
-    → taken_all by_words bodies path k w e (plain_rules (drop i rs)) u words ≡ and_then (taken by_words bodies (path ++ Part k ∷ []) w e (plain_rule r.value) words) (λ v words. taken_all by_words bodies path (k + 1) w e (plain_rules (drop (i + 1) rs)) (set.union u v) words)
-taken_all-drop bodies path k w e rs i r u words h is = rw (drop-cons rs i r, add-one, add-one, sym is) refl
+pub taken_all-drop : (pick : Pick (List ℕ)) (bodies : Bodies (List ℕ)) (path : Path) (k : ℕ) (w : World) (e : Places) (rs : List (Rc program.Rule Global)) (i : ℕ) (r : Rc program.Rule Global) (u : UpdateSet) (words : List ℕ) → i < length rs → r ≡ get_or rs i r
+    → taken_all pick bodies path k w e (plain_rules (drop i rs)) u words ≡ and_then (taken pick bodies (path ++ Part k ∷ []) w e (plain_rule r.value) words) (λ v words. taken_all pick bodies path (k + 1) w e (plain_rules (drop (i + 1) rs)) (set.union u v) words)
+taken_all-drop pick bodies path k w e rs i r u words h is = rw (drop-cons rs i r, add-one, add-one, sym is) refl
 
 pub each-drop : (instance : List Value → List ℕ → Attempt (List ℕ) UpdateSet) (ts : List (List Value)) (i : ℕ) (t : List Value) (u : UpdateSet) (words : List ℕ) → i < length ts → t ≡ get_or ts i t
     → each instance (drop i ts) u words ≡ and_then (instance t words) (λ v words. each instance (drop (i + 1) ts) (set.union u v) words)

@@ -1,7 +1,7 @@
 -- What a sound rule gives, a state takes.
 use Rattle.std.proofs.Common.{◌≡◌, ℕ, zero, suc, ◌<◌, Bool as Truth, true, false, not, ◌&&◌, ◌||◌, if◌then◌else◌, List, [], ◌∷◌, ◌++◌, length, get_or, nat_eq, find, slice_get, Option, Some, None, option_map, unwrap_or, is_some, T, eqb→eq, refl, sym, ap, ◌∙◌, subst, true≢false, arith, ◌⊎◌, inl, inr}
 use Rattle.std.specs.Bool.{⊤}
-use Rattle.std.specs.Prelude.{IsTrue, Contains, slice_index_or, ◌%◌}
+use Rattle.std.specs.Prelude.{IsTrue, Contains}
 use Rattle.std.specs.Option.{IsSome}
 use Rattle.std.specs.Ordering.{eq_by_cmp}
 use Rattle.std.specs.List.{list_any}
@@ -23,7 +23,7 @@ use Rattle.std.proofs.lemmas.Bool.{ne_eqb}
 use Rattle.asm_node.specs.Machine.{Machine, Macro, State, Input, tuples_of, has_kind, slot_at, same_location}
 use Rattle.asm_node.specs.Term.{Outcome, Gives, Needs, Places, put, put_tuple, val, vals, branch}
 use Rattle.asm_node.specs.UpdateSet.{UpdateSet, Pair, pair_cmp, ranked_values, one, consistent, touches, override, value_at, fire}
-use Rattle.asm_node.specs.Taking.{Attempt, Yields, Faults, Bodies, Path, and_then, evaluated, valued, updated, update, each, guarded, candidates, chosen, after_set, taken, taken_all, bodies_within, body_taken, by_words, stand_for}
+use Rattle.asm_node.specs.Taking.{Attempt, Yields, Faults, Bodies, Path, Pick, and_then, evaluated, valued, updated, update, each, guarded, candidates, chosen, after_set, taken, taken_all, bodies_within, body_taken, by_words, stand_for}
 use Rattle.asm_node.specs.Step.{IsState, may_have}
 use Rattle.asm_node.proofs.UpdateSets.{pair_total, pair_apart, same_is}
 use Rattle.asm_node.proofs.Revising.{get-revised, has-revised}
@@ -35,6 +35,7 @@ use Rattle.std.proofs.lemmas.Map.Views.{tells_apart}
 use Rattle.std.proofs.lemmas.List.Elements.{Contains-append_cases}
 use Rattle.asm_node.specs.declared.stop.Stop.TheVariants.{UndefGuard}
 use Rattle.std.specs.Ordering.{is_eq}
+use Rattle.asm_fire.specs.Picking.{PicksCandidates, word_picks}
 use Rattle.asm_fire.specs.Sound.{HasDomain, IsKept, OfBodies, IsSoundIn, AreSoundIn, sound_within, IsSoundBody, AreKept}
 
 module _ (m : Machine) where
@@ -249,67 +250,56 @@ candidates-within place guard (x ∷ ts) found all s t is vs at =
 pub are-tuples : (place : Place) (guard : List Value → Outcome Value) (ts all : List (List Value)) (s t : List ℕ) → candidates place guard ts [] s ≡ Yields all t → (vs : List Value) → Contains all vs → Contains ts vs
 are-tuples place guard ts all s t is vs at = elim (candidates-within place guard ts [] all s t is vs at) as (λ _. Contains ts vs) [ inl empty ↦ absurd (omega (arith, empty.1)) | inr at ↦ at ]
 
--- a word picks one of the candidates
-pub picked : (path : Path) (place : Place) (found : List (List Value)) (s t : List ℕ) (vs : List Value) → 0 < length found → by_words path place found s ≡ Yields vs t → Contains found vs
-picked path place found [] t vs some is = absurd (cc is)
-picked path place found (word ∷ words) t vs some is =
-    let e : slice_index_or found (word % length found) [] ≡ vs = cc is in
-    (word % length found, omega arith, at (word % length found) (omega arith) ∙ e)
-  where
-    at : (k : ℕ) → k < length found → slice_index_or found k vs ≡ slice_index_or found k []
-    at k lt = past found k lt
-      where
-        past : (xs : List (List Value)) (k : ℕ) → k < length xs → slice_index_or xs k vs ≡ slice_index_or xs k []
-        past [] k lt = absurd (omega (arith, lt))
-        past (x ∷ xs) zero lt = refl
-        past (x ∷ xs) (suc k) lt = past xs k (omega (arith, lt))
-
-module _ (m : Machine) (i : Input) where
+module _ (m : Machine) (i : Input) (pick : Pick (List ℕ)) (among : PicksCandidates pick) where
   module _ (of_bodies : OfBodies) (bodies : Bodies (List ℕ)) (bodies_good : (f : ℕ) (path : Path) (s : State) (e : Places) (ts : Trees) (t : List ℕ) → IsState m s → of_bodies f e ts → Good m (bodies f path (world_in m s i) e ts t)) where
-    good_chosen : (path : Path) (place : Place) (found : List (List Value)) (t : List ℕ) (body : List Value → List ℕ → Attempt (List ℕ) UpdateSet) (otherwise : Attempt (List ℕ) UpdateSet) → ((vs : List Value) (r : List ℕ) → Contains found vs → Good m (body vs r)) → Good m otherwise → Good m (chosen found (and_then (by_words path place found t) body) otherwise)
+    good_chosen : (path : Path) (place : Place) (found : List (List Value)) (t : List ℕ) (body : List Value → List ℕ → Attempt (List ℕ) UpdateSet) (otherwise : Attempt (List ℕ) UpdateSet) → ((vs : List Value) (r : List ℕ) → Contains found vs → Good m (body vs r)) → Good m otherwise → Good m (chosen found (and_then (pick path place found t) body) otherwise)
     good_chosen path place [] t body otherwise bodies other = other
     good_chosen path place (x ∷ found) t body otherwise bodies other =
-        good_then m (by_words path place (x ∷ found) t) body (λ vs r is. bodies vs r (picked path place (x ∷ found) t r vs (omega arith) is))
+        good_then m (pick path place (x ∷ found) t) body (λ vs r is. bodies vs r (among path place (x ∷ found) t r vs (omega arith) is))
 
     mutual
-      pub good_taken : (path : Path) (s : State) (e : Places) (rule : Rule) (t : List ℕ) → IsState m s → IsSoundIn m i of_bodies e rule → Good m (taken by_words bodies path (world_in m s i) e rule t)
+      pub good_taken : (path : Path) (s : State) (e : Places) (rule : Rule) (t : List ℕ) → IsState m s → IsSoundIn m i of_bodies e rule → Good m (taken pick bodies path (world_in m s i) e rule t)
       good_taken path s e (Skip place) t state sound = kept-none m
       good_taken path s e (Update place f ts x) t state sound =
           good_evaluated m (vals (world_in m s i) e ts) t _ (λ vs _. good_update m s i place f vs (val (world_in m s i) e x) t sound.2)
       good_taken path s e (Par place rs) t state sound = good_all path 0 s e rs set.empty t state (kept-none m) sound
       good_taken path s e (Seq place p q) t state sound =
-          good_then m (taken by_words bodies (path ++ Part 0 ∷ []) (world_in m s i) e p t) _ (λ u r is.
-          let kept = given m (taken by_words bodies (path ++ Part 0 ∷ []) (world_in m s i) e p t) u r (good_taken (path ++ Part 0 ∷ []) s e p t state sound.0) is in
-          good_after m u r (λ r. taken by_words bodies (path ++ Part 1 ∷ []) (world_in m (fire s u) i) e q r) kept (λ r. good_taken (path ++ Part 1 ∷ []) (fire s u) e q r (fired-state m s u state kept) sound.1))
+          good_then m (taken pick bodies (path ++ Part 0 ∷ []) (world_in m s i) e p t) _ (λ u r is.
+          let kept = given m (taken pick bodies (path ++ Part 0 ∷ []) (world_in m s i) e p t) u r (good_taken (path ++ Part 0 ∷ []) s e p t state sound.0) is in
+          good_after m u r (λ r. taken pick bodies (path ++ Part 1 ∷ []) (world_in m (fire s u) i) e q r) kept (λ r. good_taken (path ++ Part 1 ∷ []) (fire s u) e q r (fired-state m s u state kept) sound.1))
       good_taken path s e (If place g p q) t state sound =
           good_evaluated m (val (world_in m s i) e g) t _ (λ v _. good_branch m v _ _ _ (good_taken (path ++ Part 0 ∷ []) s e p t state sound.1) (good_taken (path ++ Part 1 ∷ []) s e q t state sound.2) tt)
       good_taken path s e (Let place x y p) t state sound =
           good_evaluated m (val (world_in m s i) e y) t _ (λ v is. good_taken (path ++ Bound (v ∷ []) ∷ []) s (put x (Const v) e) p t state (sound.1 s v state is))
       good_taken path s e (Forall place bs g p) t state sound =
-          good_each m (λ vs r. guarded place (val (world_in m s i) (put_tuple bs vs e) g) (taken by_words bodies (path ++ Bound vs ∷ []) (world_in m s i) (put_tuple bs vs e) p r) r) (tuples_of m.signature bs) set.empty t (kept-none m) (λ vs r at.
+          good_each m (λ vs r. guarded place (val (world_in m s i) (put_tuple bs vs e) g) (taken pick bodies (path ++ Bound vs ∷ []) (world_in m s i) (put_tuple bs vs e) p r) r) (tuples_of m.signature bs) set.empty t (kept-none m) (λ vs r at.
           good_evaluated m (val (world_in m s i) (put_tuple bs vs e) g) r _ (λ v _. good_branch m v _ _ _ (good_taken (path ++ Bound vs ∷ []) s (put_tuple bs vs e) p r state (sound vs at).1) (kept-none m) tt))
       good_taken path s e (Choose place bs g p q) t state sound =
           good_then m (candidates place (λ vs. val (world_in m s i) (put_tuple bs vs e) g) (tuples_of m.signature bs) [] t) _ (λ found r0 is.
-          good_chosen path place found r0 (λ vs r. taken by_words bodies (path ++ Bound vs ∷ []) (world_in m s i) (put_tuple bs vs e) p r) _
+          good_chosen path place found r0 (λ vs r. taken pick bodies (path ++ Bound vs ∷ []) (world_in m s i) (put_tuple bs vs e) p r) _
           (λ vs r at. good_taken (path ++ Bound vs ∷ []) s (put_tuple bs vs e) p r state (sound.0 vs (are-tuples place (λ vs. val (world_in m s i) (put_tuple bs vs e) g) (tuples_of m.signature bs) found t r0 is vs at)).1)
           (good_taken (path ++ Part 1 ∷ []) s e q r0 state sound.1))
       good_taken path s e (Call place f ts) t state sound = bodies_good f (path ++ Called f ∷ []) s e ts t state sound
 
-      pub good_all : (path : Path) (k : ℕ) (s : State) (e : Places) (rs : Rules) (u : UpdateSet) (t : List ℕ) → IsState m s → AreKept m u → AreSoundIn m i of_bodies e rs → Good m (taken_all by_words bodies path k (world_in m s i) e rs u t)
+      pub good_all : (path : Path) (k : ℕ) (s : State) (e : Places) (rs : Rules) (u : UpdateSet) (t : List ℕ) → IsState m s → AreKept m u → AreSoundIn m i of_bodies e rs → Good m (taken_all pick bodies path k (world_in m s i) e rs u t)
       good_all path k s e none u t state kept sound = kept
       good_all path k s e (more r rs) u t state kept sound =
-          good_then m (taken by_words bodies (path ++ Part k ∷ []) (world_in m s i) e r t) _ (λ v q is.
-          good_all path (suc k) s e rs (set.union u v) q state (kept-union m u v kept (given m (taken by_words bodies (path ++ Part k ∷ []) (world_in m s i) e r t) v q (good_taken (path ++ Part k ∷ []) s e r t state sound.0) is)) sound.1)
+          good_then m (taken pick bodies (path ++ Part k ∷ []) (world_in m s i) e r t) _ (λ v q is.
+          good_all path (suc k) s e rs (set.union u v) q state (kept-union m u v kept (given m (taken pick bodies (path ++ Part k ∷ []) (world_in m s i) e r t) v q (good_taken (path ++ Part k ∷ []) s e r t state sound.0) is)) sound.1)
 
-  good_macro : (n : ℕ) → ((f : ℕ) (path : Path) (s : State) (e : Places) (ts : Trees) (t : List ℕ) → IsState m s → sound_within m i n f e ts → Good m (bodies_within by_words n f path (world_in m s i) e ts t))
-      → (o : Option Macro) (path : Path) (s : State) (e : Places) (ts : Trees) (t : List ℕ) → IsState m s → IsSoundBody m i (sound_within m i n) o e ts → Good m (body_taken by_words (bodies_within by_words n) path (world_in m s i) e o ts t)
+  good_macro : (n : ℕ) → ((f : ℕ) (path : Path) (s : State) (e : Places) (ts : Trees) (t : List ℕ) → IsState m s → sound_within m i n f e ts → Good m (bodies_within pick n f path (world_in m s i) e ts t))
+      → (o : Option Macro) (path : Path) (s : State) (e : Places) (ts : Trees) (t : List ℕ) → IsState m s → IsSoundBody m i (sound_within m i n) o e ts → Good m (body_taken pick (bodies_within pick n) path (world_in m s i) e o ts t)
   good_macro n bodies None path s e ts t state sound = kept-none m
-  good_macro n bodies (Some macro) path s e ts t state sound = good_taken (sound_within m i n) (bodies_within by_words n) bodies path s (stand_for macro.parameters e ts) macro.body t state sound
+  good_macro n bodies (Some macro) path s e ts t state sound = good_taken (sound_within m i n) (bodies_within pick n) bodies path s (stand_for macro.parameters e ts) macro.body t state sound
 
-  good_bodies : (n f : ℕ) (path : Path) (s : State) (e : Places) (ts : Trees) (t : List ℕ) → IsState m s → sound_within m i n f e ts → Good m (bodies_within by_words n f path (world_in m s i) e ts t)
+  good_bodies : (n f : ℕ) (path : Path) (s : State) (e : Places) (ts : Trees) (t : List ℕ) → IsState m s → sound_within m i n f e ts → Good m (bodies_within pick n f path (world_in m s i) e ts t)
   good_bodies zero f path s e ts t state sound = kept-none m
   good_bodies (suc n) f path s e ts t state sound = good_macro n (good_bodies n) (slice_get m.rules f) path s e ts t state sound
 
   -- what a sound rule gives is kept
-  pub kept-taken : (n : ℕ) (path : Path) (s : State) (e : Places) (rule : Rule) (t r : List ℕ) (u : UpdateSet) → IsState m s → IsSoundIn m i (sound_within m i n) e rule → taken by_words (bodies_within by_words n) path (world_in m s i) e rule t ≡ Yields u r → AreKept m u
-  kept-taken n path s e rule t r u state sound is = given m (taken by_words (bodies_within by_words n) path (world_in m s i) e rule t) u r (good_taken (sound_within m i n) (bodies_within by_words n) (good_bodies n) path s e rule t state sound) is
+  pub kept-by : (n : ℕ) (path : Path) (s : State) (e : Places) (rule : Rule) (t r : List ℕ) (u : UpdateSet) → IsState m s → IsSoundIn m i (sound_within m i n) e rule → taken pick (bodies_within pick n) path (world_in m s i) e rule t ≡ Yields u r → AreKept m u
+  kept-by n path s e rule t r u state sound is = given m (taken pick (bodies_within pick n) path (world_in m s i) e rule t) u r (good_taken (sound_within m i n) (bodies_within pick n) (good_bodies n) path s e rule t state sound) is
+
+-- under choice words
+pub kept-taken : (m : Machine) (i : Input) (n : ℕ) (path : Path) (s : State) (e : Places) (rule : Rule) (t r : List ℕ) (u : UpdateSet) → IsState m s → IsSoundIn m i (sound_within m i n) e rule → taken by_words (bodies_within by_words n) path (world_in m s i) e rule t ≡ Yields u r → AreKept m u
+kept-taken m i = kept-by m i by_words word_picks

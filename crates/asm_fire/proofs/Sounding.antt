@@ -1,10 +1,9 @@
 -- A rule of a well-formed model is sound under each input.
-use Rattle.std.proofs.Common.{◌≡◌, ℕ, zero, suc, ◌<◌, Bool as Truth, true, false, not, ◌&&◌, if◌then◌else◌, List, [], ◌∷◌, map, length, nat_eq, slice_get, slice_index_or, Option, Some, None, All, Contains, IsTrue, refl, sym, ap, ◌∙◌, subst, T, eqb→eq, arith}
-use Rattle.std.specs.Prelude.{⊤}
+use Rattle.std.proofs.Common.{◌≡◌, ℕ, zero, suc, ◌<◌, Bool as Truth, true, false, not, ◌&&◌, if◌then◌else◌, List, [], ◌∷◌, map, length, nat_eq, slice_get, Option, Some, None, Contains, IsTrue, refl, sym, ap, ◌∙◌, subst, arith}
 use Rattle.std.proofs.Math.Logic.{∥∥₁_elim}
 use Rattle.std.specs.Ordering.{nat_cmp}
 use Rattle.std.specs.FinMap.{get-empty}
-use Rattle.std.proofs.lemmas.Option.{slice_get-get_or, slice_get_within}
+use Rattle.std.proofs.lemmas.Option.{slice_get-get_or}
 use Rattle.asm_domain.specs.declared.value.Value.{Value}
 use Rattle.asm_domain.specs.declared.value.Value.TheVariants.{Undef}
 use Rattle.asm_sign.specs.declared.function.FunKind.{FunKind}
@@ -19,19 +18,19 @@ use Rattle.asm_node.specs.declared.model.Model.{Model}
 use Rattle.asm_node.specs.Model.{machine_of}
 use Rattle.asm_node.specs.Tree.{Tree, Trees, Const, Within, none, more}
 use Rattle.asm_node.specs.RuleTree.{Rule, Rules, Skip, Update, Par, Seq, If, Let, Forall, Choose, Call, none as no_rule, more as more_rules}
-use Rattle.asm_node.specs.Values.{whole, is_undef}
-use Rattle.asm_node.specs.Machine.{Machine, Macro, Definition, State, Input, definition_of, tuples_of, has_kind}
-use Rattle.asm_node.specs.Term.{World, Places, Gives, nowhere, put, put_tuple, close, close_all, unbound, value_of, calls_of, reads_at, val}
+use Rattle.asm_node.specs.Values.{is_undef}
+use Rattle.asm_node.specs.Machine.{Machine, Macro, State, Input, tuples_of, has_kind}
+use Rattle.asm_node.specs.Term.{Places, Gives, nowhere, put, put_tuple, close, unbound, value_of, calls_of, reads_at, val}
 use Rattle.asm_node.specs.Taking.{stand_for}
-use Rattle.asm_node.specs.Exact.{IsExact, AreExact, exact_within}
+use Rattle.asm_node.specs.Exact.{IsExact, exact_within}
 use Rattle.asm_node.specs.Filled.{IsFilled}
 use Rattle.asm_node.specs.Step.{IsState, IsInput, alone}
-use Rattle.asm_node.specs.Ranges.{Range, Ranges, no_ranges, put_range, IsIn, AreBound, AreParameters, HasRange, HaveRanges, IsRanged, AreDefinitionsRanged}
+use Rattle.asm_node.specs.Ranges.{Range, Ranges, no_ranges, put_range, IsIn, AreBound, AreParameters, HasRange, HaveRanges}
 use Rattle.asm_node.specs.RuleRanges.{IsRangedRule, AreRangedRules}
 use Rattle.asm_node.specs.Types.{Types, put_type, bound_types, parameter_types, no_types, IsTypedRule, AreTypedRules}
-use Rattle.asm_node.specs.WellFormed.{IsDefinition, IsMacro, IsRule, IsCondition, IsInvariant, IsWellFormed, is_defined, may_read}
+use Rattle.asm_node.specs.WellFormed.{IsMacro, IsRule, IsCondition, IsInvariant, IsWellFormed}
 use Rattle.asm_node.proofs.Closed.{IsClosed, closed}
-use Rattle.asm_node.proofs.ClosedExact.{each_at, closed_exact, all_closed_exact, closed_value}
+use Rattle.asm_node.proofs.ClosedExact.{each_at, closed_exact, all_closed_exact}
 use Rattle.asm_node.proofs.Formed.{all_at, definitions_ranged}
 use Rattle.asm_node.proofs.Exactly.{AreElements, bound_finite, picked_elements, exact_in, all_exact_in, exact_calls}
 use Rattle.asm_node.proofs.Ranging.{element_in, within_in}

@@ -8,21 +8,21 @@ ghost use Rattle.asm_node.specs.Machine.{tuples_of};
 ghost use Rattle.asm_node.specs.Model.{machine_of};
 ghost use Rattle.asm_node.specs.RuleTree.{plain_rule, plain_rules};
 ghost use Rattle.asm_node.specs.Step.{IsState};
-ghost use Rattle.asm_node.specs.Taking.{Path, taken, taken_all, bodies_within, by_words, outcome, and_then, after_set, fired, guarded, each, stand_for};
+ghost use Rattle.asm_node.specs.Taking.{taken, taken_all, bodies_within, outcome, and_then, after_set, fired, guarded, each, stand_for};
 ghost use Rattle.asm_node.specs.Term.{nowhere, put, put_tuple, val};
 ghost use Rattle.asm_node.specs.Tree.{Const, plain, plain_all};
-ghost use Rattle.asm_node.specs.Words.{left};
 ghost use Rattle.asm_eval.specs.World.{world_in};
-ghost use Rattle.asm_fire.specs.Answer.{Fires};
+ghost use Rattle.asm_fire.specs.Chooser.{FiresBy, Stay, step_of};
 ghost use Rattle.asm_fire.specs.Sound.{IsSound, IsSoundIn, AreSoundIn, sound_within, IsEverExact, AreKept};
 
 use crate::candidates::{candidates, guard_of};
+use crate::chooser::{Chooser, Entry};
 use crate::error::FireError;
 use crate::join::join;
 use crate::update::fire_update;
 use asm_domain::Value;
 use asm_eval::{World, bound, eval_in, tuples_of};
-use asm_node::{Binder, Env, Input, Model, Rule, RuleKind, Stop, Term, Values, Words};
+use asm_node::{Binder, Env, Input, Model, Rule, RuleKind, Term, Values};
 use asm_source::Place;
 use asm_state::Store;
 use asm_update::Updates;
@@ -32,20 +32,19 @@ use std::rc::Rc;
 /// How many macro rules may stand inside one another.
 const RULES: u32 = 32;
 
-/// The update set of a rule without free variables, or its first fault. `words` then stands after the words that were
-/// taken.
-pub fn fire<S: Store>(
+/// The update set of a rule without free variables, or its first fault, where its choices are made by a chooser.
+pub fn fire_by<S: Store, C: Chooser>(
     alloc: Global,
     model: &Model,
     store: &S,
     input: &Input,
-    words: &mut Words,
+    chooser: &mut C,
     rule: &Rc<Rule>,
 ) -> Result<Updates, FireError>
     requires state { IsState (machine_of model.now) (S.state store.now) }
     requires sound { IsSound (machine_of model.now) input.now (plain_rule rule.now.value) }
-    ensures outcome { Fires result (left words.new) (outcome by_words (world_in (machine_of model.now) (S.state store.now) input.now) (plain_rule rule.now.value) (left words.old)) }
-    ensures words { words.new.0 ≡ words.old.0 }
+    ensures fires { FiresBy (C.ways chooser.old) result (C.words chooser.new) (λ pick path. taken pick (bodies_within pick 32) path (world_in (machine_of model.now) (S.state store.now) input.now) nowhere (plain_rule rule.now.value) (C.words chooser.old)) }
+    ensures kept { C.kept chooser.new ≡ C.kept chooser.old }
 {
     let world = World {
         alloc,
@@ -54,49 +53,50 @@ pub fn fire<S: Store>(
         input,
     };
     let env = Env::new(alloc);
-    fire_rule(&world, RULES, &env, words, rule)
+    fire_rule(&world, RULES, &env, chooser, rule)
 }
 
 #[cycle(fire)]
-fn fire_rule<S: Store>(
+fn fire_rule<S: Store, C: Chooser>(
     world: &World<'_, S>,
     count: u32,
     env: &Env,
-    words: &mut Words,
+    chooser: &mut C,
     rule: &Rc<Rule>,
 ) -> Result<Updates, FireError>
     requires { IsSoundIn (machine_of world.now.model.now) world.now.input.now (sound_within (machine_of world.now.model.now) world.now.input.now count) (places_of env.now) (plain_rule rule.now.value) }
-    ensures fires { (path : Path) → Fires result (left words.new) (taken by_words (bodies_within by_words count) (path) (world_in (machine_of world.now.model.now) (S.state world.now.store.now) world.now.input.now) (places_of env.now) (plain_rule rule.now.value) (left words.old)) }
-    ensures words { words.new.0 ≡ words.old.0 }
+    ensures fires { FiresBy (C.ways chooser.old) result (C.words chooser.new) (λ pick path. taken pick (bodies_within pick count) (path) (world_in (machine_of world.now.model.now) (S.state world.now.store.now) world.now.input.now) (places_of env.now) (plain_rule rule.now.value) (C.words chooser.old)) }
+    ensures stays { IfOk result (λ _. Stay (C.ways chooser.old) (C.ways chooser.new)) }
+    ensures kept { C.kept chooser.new ≡ C.kept chooser.old }
 {
     match &rule.kind {
         RuleKind::Skip(_) => Ok(Updates::new(world.alloc)),
         RuleKind::Update(place, function, arguments, value) => {
             fire_update(world, env, *place, *function, arguments.slice(), value)
         }
-        RuleKind::Par(_, rules) => fire_all(world, count, env, words, rules.slice()),
+        RuleKind::Par(_, rules) => fire_all(world, count, env, chooser, rules.slice()),
         RuleKind::Seq(_, first, second) => {
-            let updates = fire_rule(world, count, env, words, first)?;
-            fire_after(world, count, env, words, updates, second)
+            let updates = fire_part(world, count, env, chooser, Entry::Part(0), first)?;
+            fire_after(world, count, env, chooser, updates, second)
         }
         RuleKind::If(place, guard, then_part, else_part) => {
             let holds = guard_of(world, env, *place, guard)?;
             if holds {
-                fire_rule(world, count, env, words, then_part)
+                fire_part(world, count, env, chooser, Entry::Part(0), then_part)
             } else {
-                fire_rule(world, count, env, words, else_part)
+                fire_part(world, count, env, chooser, Entry::Part(1), else_part)
             }
         }
         RuleKind::Let(_, variable, term, body) => {
             let value = eval_in(world, env, term)?;
-            fire_with(world, count, env, words, *variable, value, body)
+            fire_with(world, count, env, chooser, *variable, value, body)
         }
         RuleKind::Forall(place, binders, guard, body) => {
             fire_forall(
                 world,
                 count,
                 env,
-                words,
+                chooser,
                 *place,
                 binders.slice(),
                 guard,
@@ -107,13 +107,13 @@ fn fire_rule<S: Store>(
             let tuples = tuples_of(world.alloc, world.model.signature(), binders.slice())?;
             let found = candidates(world, env, *place, binders.slice(), guard, tuples.slice())?;
             if found.is_empty() {
-                fire_rule(world, count, env, words, otherwise)
+                fire_part(world, count, env, chooser, Entry::Part(1), otherwise)
             } else {
                 fire_chosen(
                     world,
                     count,
                     env,
-                    words,
+                    chooser,
                     *place,
                     binders.slice(),
                     found.slice(),
@@ -122,56 +122,79 @@ fn fire_rule<S: Store>(
             }
         }
         RuleKind::Call(_, number, actuals) => {
-            fire_call(world, count, env, words, *number, actuals.slice())
+            fire_call(world, count, env, chooser, *number, actuals.slice())
         }
     }
 }
 
-/// A rule where one more variable has a value.
+/// A part of a rule.
 #[cycle(fire)]
-fn fire_with<S: Store>(
+fn fire_part<S: Store, C: Chooser>(
     world: &World<'_, S>,
     count: u32,
     env: &Env,
-    words: &mut Words,
+    chooser: &mut C,
+    step: Entry<'_>,
+    rule: &Rc<Rule>,
+) -> Result<Updates, FireError>
+    requires { IsSoundIn (machine_of world.now.model.now) world.now.input.now (sound_within (machine_of world.now.model.now) world.now.input.now count) (places_of env.now) (plain_rule rule.now.value) }
+    ensures fires { FiresBy (C.ways chooser.old) result (C.words chooser.new) (λ pick path. taken pick (bodies_within pick count) (path ++ step_of step.entry ∷ []) (world_in (machine_of world.now.model.now) (S.state world.now.store.now) world.now.input.now) (places_of env.now) (plain_rule rule.now.value) (C.words chooser.old)) }
+    ensures stays { IfOk result (λ _. Stay (C.ways chooser.old) (C.ways chooser.new)) }
+    ensures kept { C.kept chooser.new ≡ C.kept chooser.old }
+{
+    chooser.enter(step)?;
+    let updates = fire_rule(world, count, env, chooser, rule)?;
+    chooser.leave();
+    Ok(updates)
+}
+
+/// A rule where one more variable has a value.
+#[cycle(fire)]
+fn fire_with<S: Store, C: Chooser>(
+    world: &World<'_, S>,
+    count: u32,
+    env: &Env,
+    chooser: &mut C,
     variable: u32,
     value: Value,
     rule: &Rc<Rule>,
 ) -> Result<Updates, FireError>
     requires { IsSoundIn (machine_of world.now.model.now) world.now.input.now (sound_within (machine_of world.now.model.now) world.now.input.now count) (put variable (Const value) (places_of env.now)) (plain_rule rule.now.value) }
-    ensures fires { (path : Path) → Fires result (left words.new) (taken by_words (bodies_within by_words count) (path) (world_in (machine_of world.now.model.now) (S.state world.now.store.now) world.now.input.now) (put variable (Const value) (places_of env.now)) (plain_rule rule.now.value) (left words.old)) }
-    ensures words { words.new.0 ≡ words.old.0 }
+    ensures fires { FiresBy (C.ways chooser.old) result (C.words chooser.new) (λ pick path. taken pick (bodies_within pick count) (path ++ Bound (value ∷ []) ∷ []) (world_in (machine_of world.now.model.now) (S.state world.now.store.now) world.now.input.now) (put variable (Const value) (places_of env.now)) (plain_rule rule.now.value) (C.words chooser.old)) }
+    ensures stays { IfOk result (λ _. Stay (C.ways chooser.old) (C.ways chooser.new)) }
+    ensures kept { C.kept chooser.new ≡ C.kept chooser.old }
 {
     let inner = env.value(variable, value)?;
-    fire_rule(world, count, &inner, words, rule)
+    fire_part(world, count, &inner, chooser, Entry::Bound(&[value]), rule)
 }
 
 /// A rule where the variables of binders have values.
 #[cycle(fire)]
-fn fire_bound<S: Store>(
+fn fire_bound<S: Store, C: Chooser>(
     world: &World<'_, S>,
     count: u32,
     env: &Env,
-    words: &mut Words,
+    chooser: &mut C,
     binders: &[Binder],
     values: &[Value],
     rule: &Rc<Rule>,
 ) -> Result<Updates, FireError>
     requires { IsSoundIn (machine_of world.now.model.now) world.now.input.now (sound_within (machine_of world.now.model.now) world.now.input.now count) (put_tuple binders.now values.now (places_of env.now)) (plain_rule rule.now.value) }
-    ensures fires { (path : Path) → Fires result (left words.new) (taken by_words (bodies_within by_words count) (path) (world_in (machine_of world.now.model.now) (S.state world.now.store.now) world.now.input.now) (put_tuple binders.now values.now (places_of env.now)) (plain_rule rule.now.value) (left words.old)) }
-    ensures words { words.new.0 ≡ words.old.0 }
+    ensures fires { FiresBy (C.ways chooser.old) result (C.words chooser.new) (λ pick path. taken pick (bodies_within pick count) (path ++ Bound values.now ∷ []) (world_in (machine_of world.now.model.now) (S.state world.now.store.now) world.now.input.now) (put_tuple binders.now values.now (places_of env.now)) (plain_rule rule.now.value) (C.words chooser.old)) }
+    ensures stays { IfOk result (λ _. Stay (C.ways chooser.old) (C.ways chooser.new)) }
+    ensures kept { C.kept chooser.new ≡ C.kept chooser.old }
 {
     let inner = bound(env, binders, values)?;
-    fire_rule(world, count, &inner, words, rule)
+    fire_part(world, count, &inner, chooser, Entry::Bound(values), rule)
 }
 
 /// The body for the candidate that the next word gives.
 #[cycle(fire)]
-fn fire_chosen<S: Store>(
+fn fire_chosen<S: Store, C: Chooser>(
     world: &World<'_, S>,
     count: u32,
     env: &Env,
-    words: &mut Words,
+    chooser: &mut C,
     place: Place,
     binders: &[Binder],
     found: &[Values],
@@ -179,30 +202,30 @@ fn fire_chosen<S: Store>(
 ) -> Result<Updates, FireError>
     requires some { 0 < length found.now }
     requires sound { (vs : List domain.Value) → Contains found.now vs → IsSoundIn (machine_of world.now.model.now) world.now.input.now (sound_within (machine_of world.now.model.now) world.now.input.now count) (put_tuple binders.now vs (places_of env.now)) (plain_rule body.now.value) }
-    ensures fires { (path : Path) → Fires result (left words.new) (and_then (by_words path place found.now (left words.old)) (λ vs ws. taken by_words (bodies_within by_words count) (path ++ Bound vs ∷ []) (world_in (machine_of world.now.model.now) (S.state world.now.store.now) world.now.input.now) (put_tuple binders.now vs (places_of env.now)) (plain_rule body.now.value) (ws))) }
-    ensures words { words.new.0 ≡ words.old.0 }
+    ensures fires { FiresBy (C.ways chooser.old) result (C.words chooser.new) (λ pick path. and_then (pick path place found.now (C.words chooser.old)) (λ vs ws. taken pick (bodies_within pick count) (path ++ Bound vs ∷ []) (world_in (machine_of world.now.model.now) (S.state world.now.store.now) world.now.input.now) (put_tuple binders.now vs (places_of env.now)) (plain_rule body.now.value) (ws))) }
+    ensures stays { IfOk result (λ _. Stay (C.ways chooser.old) (C.ways chooser.new)) }
+    ensures kept { C.kept chooser.new ≡ C.kept chooser.old }
 {
-    let Some(word) = words.take() else {
-        return Err(FireError::Stop(Stop::Choice(place)));
-    };
-    let tuple = &found[word as usize % found.len()];
-    fire_bound(world, count, env, words, binders, tuple.slice(), body)
+    let number = chooser.choose(place, found)?;
+    let tuple = &found[number];
+    fire_bound(world, count, env, chooser, binders, tuple.slice(), body)
 }
 
 /// The second part of a `seq`, after the first part's set.
 #[cycle(fire)]
-fn fire_after<S: Store>(
+fn fire_after<S: Store, C: Chooser>(
     world: &World<'_, S>,
     count: u32,
     env: &Env,
-    words: &mut Words,
+    chooser: &mut C,
     first: Updates,
     second: &Rc<Rule>,
 ) -> Result<Updates, FireError>
     requires sound { IsSoundIn (machine_of world.now.model.now) world.now.input.now (sound_within (machine_of world.now.model.now) world.now.input.now count) (places_of env.now) (plain_rule second.now.value) }
     requires kept { AreKept (machine_of world.now.model.now) first }
-    ensures fires { (path : Path) → Fires result (left words.new) (after_set first (left words.old) (λ ws. taken by_words (bodies_within by_words count) path (fired (world_in (machine_of world.now.model.now) (S.state world.now.store.now) world.now.input.now) first) (places_of env.now) (plain_rule second.now.value) ws)) }
-    ensures words { words.new.0 ≡ words.old.0 }
+    ensures fires { FiresBy (C.ways chooser.old) result (C.words chooser.new) (λ pick path. after_set first (C.words chooser.old) (λ ws. taken pick (bodies_within pick count) (path ++ Part 1 ∷ []) (fired (world_in (machine_of world.now.model.now) (S.state world.now.store.now) world.now.input.now) first) (places_of env.now) (plain_rule second.now.value) ws)) }
+    ensures stays { IfOk result (λ _. Stay (C.ways chooser.old) (C.ways chooser.new)) }
+    ensures kept { C.kept chooser.new ≡ C.kept chooser.old }
 {
     if first.clash(world.model.signature()).is_some() {
         return Ok(first);
@@ -215,7 +238,7 @@ fn fire_after<S: Store>(
         store: &store,
         input: world.input,
     };
-    let later = fire_rule(&after, count, env, words, second)?;
+    let later = fire_part(&after, count, env, chooser, Entry::Part(1), second)?;
     let mut updates = first;
     updates.override_by(&later)?;
     Ok(updates)
@@ -223,20 +246,22 @@ fn fire_after<S: Store>(
 
 /// The union of the sets of the parts.
 #[cycle(fire)]
-fn fire_all<S: Store>(
+fn fire_all<S: Store, C: Chooser>(
     world: &World<'_, S>,
     count: u32,
     env: &Env,
-    words: &mut Words,
+    chooser: &mut C,
     rules: &[Rc<Rule>],
 ) -> Result<Updates, FireError>
     requires { AreSoundIn (machine_of world.now.model.now) world.now.input.now (sound_within (machine_of world.now.model.now) world.now.input.now count) (places_of env.now) (plain_rules rules.now) }
-    ensures fires { (path : Path) → Fires result (left words.new) (taken_all by_words (bodies_within by_words count) path 0 (world_in (machine_of world.now.model.now) (S.state world.now.store.now) world.now.input.now) (places_of env.now) (plain_rules rules.now) set.empty (left words.old)) }
-    ensures words { words.new.0 ≡ words.old.0 }
+    ensures fires { FiresBy (C.ways chooser.old) result (C.words chooser.new) (λ pick path. taken_all pick (bodies_within pick count) path 0 (world_in (machine_of world.now.model.now) (S.state world.now.store.now) world.now.input.now) (places_of env.now) (plain_rules rules.now) set.empty (C.words chooser.old)) }
+    ensures stays { IfOk result (λ _. Stay (C.ways chooser.old) (C.ways chooser.new)) }
+    ensures kept { C.kept chooser.new ≡ C.kept chooser.old }
 {
     let mut all = Updates::new(world.alloc);
-    for rule in rules {
-        let updates = fire_rule(world, count, env, words, rule)?;
+    for number in 0..rules.len() {
+        let rule = &rules[number];
+        let updates = fire_part(world, count, env, chooser, Entry::Part(number), rule)?;
         join(&mut all, &updates)?;
     }
     Ok(all)
@@ -244,19 +269,20 @@ fn fire_all<S: Store>(
 
 /// The union of the sets of the instances.
 #[cycle(fire)]
-fn fire_forall<S: Store>(
+fn fire_forall<S: Store, C: Chooser>(
     world: &World<'_, S>,
     count: u32,
     env: &Env,
-    words: &mut Words,
+    chooser: &mut C,
     place: Place,
     binders: &[Binder],
     guard: &Rc<Term>,
     body: &Rc<Rule>,
 ) -> Result<Updates, FireError>
     requires { (vs : List domain.Value) → Contains (tuples_of (machine_of world.now.model.now).signature binders.now) vs → IsEverExact (machine_of world.now.model.now) world.now.input.now (put_tuple binders.now vs (places_of env.now)) (plain guard.now.value) × IsSoundIn (machine_of world.now.model.now) world.now.input.now (sound_within (machine_of world.now.model.now) world.now.input.now count) (put_tuple binders.now vs (places_of env.now)) (plain_rule body.now.value) }
-    ensures fires { (path : Path) → Fires result (left words.new) (each (λ vs ws. guarded place (val (world_in (machine_of world.now.model.now) (S.state world.now.store.now) world.now.input.now) (put_tuple binders.now vs (places_of env.now)) (plain guard.now.value)) (taken by_words (bodies_within by_words count) (path ++ Bound vs ∷ []) (world_in (machine_of world.now.model.now) (S.state world.now.store.now) world.now.input.now) (put_tuple binders.now vs (places_of env.now)) (plain_rule body.now.value) (ws)) ws) (tuples_of (machine_of world.now.model.now).signature binders.now) set.empty (left words.old)) }
-    ensures words { words.new.0 ≡ words.old.0 }
+    ensures fires { FiresBy (C.ways chooser.old) result (C.words chooser.new) (λ pick path. each (λ vs ws. guarded place (val (world_in (machine_of world.now.model.now) (S.state world.now.store.now) world.now.input.now) (put_tuple binders.now vs (places_of env.now)) (plain guard.now.value)) (taken pick (bodies_within pick count) (path ++ Bound vs ∷ []) (world_in (machine_of world.now.model.now) (S.state world.now.store.now) world.now.input.now) (put_tuple binders.now vs (places_of env.now)) (plain_rule body.now.value) (ws)) ws) (tuples_of (machine_of world.now.model.now).signature binders.now) set.empty (C.words chooser.old)) }
+    ensures stays { IfOk result (λ _. Stay (C.ways chooser.old) (C.ways chooser.new)) }
+    ensures kept { C.kept chooser.new ≡ C.kept chooser.old }
 {
     let tuples = tuples_of(world.alloc, world.model.signature(), binders)?;
     let mut all = Updates::new(world.alloc);
@@ -265,7 +291,7 @@ fn fire_forall<S: Store>(
             world,
             count,
             env,
-            words,
+            chooser,
             place,
             binders,
             tuple.slice(),
@@ -279,11 +305,11 @@ fn fire_forall<S: Store>(
 
 /// The set of the instance for one tuple.
 #[cycle(fire)]
-fn fire_at<S: Store>(
+fn fire_at<S: Store, C: Chooser>(
     world: &World<'_, S>,
     count: u32,
     env: &Env,
-    words: &mut Words,
+    chooser: &mut C,
     place: Place,
     binders: &[Binder],
     values: &[Value],
@@ -292,32 +318,35 @@ fn fire_at<S: Store>(
 ) -> Result<Updates, FireError>
     requires guard { IsEverExact (machine_of world.now.model.now) world.now.input.now (put_tuple binders.now values.now (places_of env.now)) (plain guard.now.value) }
     requires body { IsSoundIn (machine_of world.now.model.now) world.now.input.now (sound_within (machine_of world.now.model.now) world.now.input.now count) (put_tuple binders.now values.now (places_of env.now)) (plain_rule body.now.value) }
-    ensures fires { (path : Path) → Fires result (left words.new) (guarded place (val (world_in (machine_of world.now.model.now) (S.state world.now.store.now) world.now.input.now) (put_tuple binders.now values.now (places_of env.now)) (plain guard.now.value)) (taken by_words (bodies_within by_words count) (path) (world_in (machine_of world.now.model.now) (S.state world.now.store.now) world.now.input.now) (put_tuple binders.now values.now (places_of env.now)) (plain_rule body.now.value) (left words.old)) (left words.old)) }
-    ensures words { words.new.0 ≡ words.old.0 }
+    ensures fires { FiresBy (C.ways chooser.old) result (C.words chooser.new) (λ pick path. guarded place (val (world_in (machine_of world.now.model.now) (S.state world.now.store.now) world.now.input.now) (put_tuple binders.now values.now (places_of env.now)) (plain guard.now.value)) (taken pick (bodies_within pick count) (path ++ Bound values.now ∷ []) (world_in (machine_of world.now.model.now) (S.state world.now.store.now) world.now.input.now) (put_tuple binders.now values.now (places_of env.now)) (plain_rule body.now.value) (C.words chooser.old)) (C.words chooser.old)) }
+    ensures stays { IfOk result (λ _. Stay (C.ways chooser.old) (C.ways chooser.new)) }
+    ensures kept { C.kept chooser.new ≡ C.kept chooser.old }
 {
     let inner = bound(env, binders, values)?;
-    fire_guarded(world, count, &inner, words, place, guard, body)
+    fire_guarded(world, count, &inner, chooser, place, values, guard, body)
 }
 
-/// A body where its guard is true.
+/// A body under bound values where its guard is true.
 #[cycle(fire)]
-fn fire_guarded<S: Store>(
+fn fire_guarded<S: Store, C: Chooser>(
     world: &World<'_, S>,
     count: u32,
     env: &Env,
-    words: &mut Words,
+    chooser: &mut C,
     place: Place,
+    values: &[Value],
     guard: &Rc<Term>,
     body: &Rc<Rule>,
 ) -> Result<Updates, FireError>
     requires guard { IsEverExact (machine_of world.now.model.now) world.now.input.now (places_of env.now) (plain guard.now.value) }
     requires body { IsSoundIn (machine_of world.now.model.now) world.now.input.now (sound_within (machine_of world.now.model.now) world.now.input.now count) (places_of env.now) (plain_rule body.now.value) }
-    ensures fires { (path : Path) → Fires result (left words.new) (guarded place (val (world_in (machine_of world.now.model.now) (S.state world.now.store.now) world.now.input.now) (places_of env.now) (plain guard.now.value)) (taken by_words (bodies_within by_words count) (path) (world_in (machine_of world.now.model.now) (S.state world.now.store.now) world.now.input.now) (places_of env.now) (plain_rule body.now.value) (left words.old)) (left words.old)) }
-    ensures words { words.new.0 ≡ words.old.0 }
+    ensures fires { FiresBy (C.ways chooser.old) result (C.words chooser.new) (λ pick path. guarded place (val (world_in (machine_of world.now.model.now) (S.state world.now.store.now) world.now.input.now) (places_of env.now) (plain guard.now.value)) (taken pick (bodies_within pick count) (path ++ Bound values.now ∷ []) (world_in (machine_of world.now.model.now) (S.state world.now.store.now) world.now.input.now) (places_of env.now) (plain_rule body.now.value) (C.words chooser.old)) (C.words chooser.old)) }
+    ensures stays { IfOk result (λ _. Stay (C.ways chooser.old) (C.ways chooser.new)) }
+    ensures kept { C.kept chooser.new ≡ C.kept chooser.old }
 {
     let holds = guard_of(world, env, place, guard)?;
     if holds {
-        fire_rule(world, count, env, words, body)
+        fire_part(world, count, env, chooser, Entry::Bound(values), body)
     } else {
         Ok(Updates::new(world.alloc))
     }
@@ -325,17 +354,18 @@ fn fire_guarded<S: Store>(
 
 /// The set of a macro rule's body.
 #[cycle(fire)]
-fn fire_call<S: Store>(
+fn fire_call<S: Store, C: Chooser>(
     world: &World<'_, S>,
     count: u32,
     env: &Env,
-    words: &mut Words,
+    chooser: &mut C,
     number: u32,
     actuals: &[Rc<Term>],
 ) -> Result<Updates, FireError>
     requires { sound_within (machine_of world.now.model.now) world.now.input.now count number (places_of env.now) (plain_all actuals.now) }
-    ensures fires { (path : Path) → Fires result (left words.new) (bodies_within by_words count number path (world_in (machine_of world.now.model.now) (S.state world.now.store.now) world.now.input.now) (places_of env.now) (plain_all actuals.now) (left words.old)) }
-    ensures words { words.new.0 ≡ words.old.0 }
+    ensures fires { FiresBy (C.ways chooser.old) result (C.words chooser.new) (λ pick path. bodies_within pick count number (path ++ Called number ∷ []) (world_in (machine_of world.now.model.now) (S.state world.now.store.now) world.now.input.now) (places_of env.now) (plain_all actuals.now) (C.words chooser.old)) }
+    ensures stays { IfOk result (λ _. Stay (C.ways chooser.old) (C.ways chooser.new)) }
+    ensures kept { C.kept chooser.new ≡ C.kept chooser.old }
 {
     if count == 0 {
         return Ok(Updates::new(world.alloc));
@@ -343,7 +373,14 @@ fn fire_call<S: Store>(
     match world.model.rule(number) {
         Some(called) => {
             let inner = standing_for(world.alloc, called.parameters.slice(), actuals, env)?;
-            fire_rule(world, count - 1, &inner, words, &called.body)
+            fire_part(
+                world,
+                count - 1,
+                &inner,
+                chooser,
+                Entry::Called(number),
+                &called.body,
+            )
         }
         None => Ok(Updates::new(world.alloc)),
     }

@@ -9,13 +9,15 @@ use Rattle.asm_sign.specs.Vocabulary.{locations, function_at}
 use Rattle.asm_node.specs.declared.stop.Stop.{Stop}
 use Rattle.asm_node.specs.Machine.{Machine, State, Input}
 use Rattle.asm_node.specs.Term.{nowhere}
-use Rattle.asm_node.specs.Taking.{Attempt, Yields, Faults, outcome, by_words}
+use Rattle.asm_node.specs.Taking.{Attempt, Yields, Faults, Choosing, outcome, by_words, by_paths}
 use Rattle.asm_node.specs.UpdateSet.{UpdateSet, clash, consistent, ranked_values, values_at}
 use Rattle.asm_laws.specs.Choosing.{GivesByWords, GivesByPaths}
 use Rattle.asm_node.specs.Step.{IsState, IsInput, Steps, next, ended, after, world_at, with_shared}
 use Rattle.asm_node.specs.WellFormed.{IsWellFormed}
 use Rattle.asm_laws.proofs.ChoosingWords.{words_for}
 use Rattle.asm_laws.proofs.ChoosingPaths.{paths_for}
+use Rattle.asm_laws.proofs.Following.{by_words_too}
+use Rattle.asm_fire.specs.Drawing.{DrawsFor}
 use Rattle.asm_fire.specs.Sound.{AreKept}
 use Rattle.asm_fire.proofs.Keeping.{kept-taken, fired-state, have_locations}
 use Rattle.asm_fire.proofs.Sounding.{rule_is_sound}
@@ -24,6 +26,7 @@ use Rattle.asm_update.specs.Clash.{HaveLocations, first_pair}
 use Rattle.asm_update.proofs.Clashes.{IsQuiet, clash_from-none}
 use Rattle.asm_update.proofs.Differing.{filtered_differ, one_value, consistent_without_clash}
 use Rattle.asm_laws.proofs.Differing.{tuples_differ, values_differ}
+use Rattle.step_laws.specs.Stepping.{Leads}
 use Rattle.asm_laws.proofs.Filling.{shared_state}
 
 module _ (m : Machine) (s : State) (i : Input) where
@@ -68,19 +71,27 @@ module _ (m : Machine) (u : UpdateSet) where
       subst (λ (v : UpdateSet). consistent v ≡ true) (same_items u)
       (consistent_without_clash m.signature (set.items u) (subst (HaveLocations m.signature) (sym (same_items u)) (have_locations m u kept)) (ap (clash m.signature) (same_items u) ∙ none))
 
+-- what the main rule gives under words that it takes is fired
+fired_under : (m : Machine) (s : State) (i : Input) (t : State) (words : List ℕ) → IsWellFormed m → (p : Steps m s i t) → outcome by_words (world_at m s i) m.main words ≡ Yields p.updates [] → next m s i words m.main ≡ Ok (t, [])
+fired_under m s i t words formed p gives =
+    ap (ended (world_at m s i)) gives
+    ∙ ap (after (world_at m s i) p.updates []) (no_clash m p.updates (values_differ m formed) p.is_consistent)
+    ∙ ap (λ (s : State). reached s) p.next_is
+  where
+    reached : State → Result (State × List ℕ) Stop
+    reached s = Ok (s, [])
+
 -- a step under some choices is the next state under some words, which are all taken
 pub words_of : (m : Machine) (s : State) (i : Input) (t : State) → IsWellFormed m → Steps m s i t → (words : List ℕ) × (next m s i words m.main ≡ Ok (t, []))
 words_of m s i t formed p =
     let k : GivesByWords (world_at m s i) m.main p.updates = by_some_words m s i t p in
-    let gives : outcome by_words (world_at m s i) m.main k.words ≡ Yields p.updates [] = ap (outcome by_words (world_at m s i) m.main) (sym (append-nil k.words)) ∙ k.gives [] in (
-      k.words,
-      ap (ended (world_at m s i)) gives
-          ∙ ap (after (world_at m s i) p.updates []) (no_clash m p.updates (values_differ m formed) p.is_consistent)
-          ∙ ap (λ (s : State). reached s) p.next_is,
-    )
-  where
-    reached : State → Result (State × List ℕ) Stop
-    reached s = Ok (s, [])
+    (k.words, fired_under m s i t k.words formed p (ap (outcome by_words (world_at m s i) m.main) (sym (append-nil k.words)) ∙ k.gives []))
+
+-- so are those that are drawn for the choices of a step
+pub drawn_lead : (m : Machine) (s : State) (i : Input) (choosing : Choosing) (t : State) (words : List ℕ) → IsWellFormed m → Leads m s i choosing t → DrawsFor (world_at m s i) m.main choosing words → next m s i words m.main ≡ Ok (t, [])
+drawn_lead m s i choosing t words formed leads draws =
+    let gives = draws leads.steps.updates (subst (λ (c : Choosing). outcome (by_paths c) (world_at m s i) m.main tt ≡ Yields leads.steps.updates tt) leads.by_choices leads.steps.gives) in
+    fired_under m s i t words formed leads.steps (by_words_too (world_at m s i) m.main leads.steps.updates words [] gives)
 
 -- the next state under some words, from a state under an input of its model, is a step under some choices
 pub choices_of : (m : Machine) (s : State) (i : Input) (t : State) (words rest : List ℕ) → IsWellFormed m → IsInput m i → IsState m s → next m s i words m.main ≡ Ok (t, rest) → Steps m s i t

@@ -4,6 +4,6 @@
 mod step_law;
 
 pub use step_law::{
-    choices_lead_once, initial_states_are_states, runs_have_states, steps_lead_to_states,
-    words_are_steps,
+    choices_lead_once, drawn_words_lead, initial_states_are_states, runs_have_states,
+    steps_lead_to_states, words_are_steps,
 };

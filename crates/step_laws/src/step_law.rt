@@ -1,10 +1,11 @@
 //! The laws on states and steps.
 ghost use Rattle.std.specs.Prelude.{◌≡◌, ℕ, List, [], Ok, All};
 ghost use Rattle.asm_node.specs.Machine.{Machine, State, Input};
-ghost use Rattle.asm_node.specs.Step.{IsState, IsInput, IsRun, Steps, initial, next};
+ghost use Rattle.asm_node.specs.Step.{IsState, IsInput, IsRun, Steps, initial, next, world_at};
 ghost use Rattle.asm_node.specs.WellFormed.{IsWellFormed};
-ghost use Rattle.step_laws.specs.Stepping.{Leads};
 ghost use Rattle.asm_node.specs.Taking.{Choosing};
+ghost use Rattle.asm_fire.specs.Drawing.{DrawsFor};
+ghost use Rattle.step_laws.specs.Stepping.{Leads};
 
 /// The initial state is a state.
 #[tactic(auto, using(crate::proofs::Started::initial_is_state))]
@@ -36,4 +37,10 @@ pub fn runs_have_states()
 #[tactic(auto, using(crate::proofs::Running::leads_once))]
 pub fn choices_lead_once()
     ensures { (m : Machine) (s : State) (i : Input) (choosing : Choosing) (t u : State) → Leads m s i choosing t → Leads m s i choosing u → t ≡ u }
+{}
+
+/// The words that the main rule draws for the choices of a step lead to the same state, and none of them is left.
+#[tactic(auto, using(crate::proofs::Stepping::drawn_lead))]
+pub fn drawn_words_lead()
+    ensures { (m : Machine) (s : State) (i : Input) (choosing : Choosing) (t : State) (words : List ℕ) → IsWellFormed m → Leads m s i choosing t → DrawsFor (world_at m s i) m.main choosing words → next m s i words m.main ≡ Ok (t, []) }
 {}

@@ -4,6 +4,7 @@ use Rattle.std.proofs.lemmas.Bool.Decides.{nat_tests, Decides-eqb}
 use Rattle.std.proofs.Math.ListN.{length-set}
 use Rattle.std.proofs.lemmas.Grind.{common_steps, elements}
 use Rattle.cnf_base.specs.declared.lit.Lit.{Lit}
+use Rattle.cnf_base.specs.Clauses.{clause_variables}
 use Rattle.cnf_base.specs.Known.{value_of, IsTold, made_true}
 
 pub none_left : {X : Type 0} (b : Bool) (x : X) (y : Option X) → cond b (Some x) y ≡ None → (b ≡ false) × (y ≡ None)
@@ -153,3 +154,15 @@ told_short (suc n) vs ls e t =
 
 pub trail_short : (vs : List (Option Bool)) (ls : List Lit) → IsTold vs ls → length ls ≤ length vs
 trail_short vs ls t = omega (arith, told_short (length ls) vs ls refl t, count_some-le vs)
+
+-- ---- and its variables are those of the table
+
+pub trail_within : (vs : List (Option Bool)) (ls : List Lit) → IsTold vs ls → clause_variables ls ≤ length vs
+trail_within vs ls t = below ls (length vs) t.within
+  where
+    below : (ls : List Lit) (n : ℕ) → ((i : ℕ) (d : Lit) → i < length ls → (get_or ls i d).var < n) → clause_variables ls ≤ n
+    below [] n h = omega arith
+    below (m ∷ ls) n h =
+        let first : m.var < n = h zero m (omega arith) in
+        let rest : clause_variables ls ≤ n = below ls n (λ i d k. h (suc i) d (omega arith)) in
+        omega arith

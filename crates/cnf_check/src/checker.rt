@@ -1,4 +1,5 @@
-ghost use Rattle.std.specs.Prelude.{◌≡◌, ◌≤◌, ◌++◌, [], ◌∷◌, OnOk, OnErr, IfOk, IfErr, IsOk, IsTrue, ◌↔◌, length};
+ghost use Rattle.std.specs.Prelude.{◌≡◌, ◌≤◌, ◌++◌, [], ◌∷◌, OnOk, OnErr, IfOk, IfErr, IsOk, IsTrue, ◌↔◌, length, slice_get};
+ghost use Rattle.std.specs.Option.{option_copied};
 ghost use Rattle.cnf_base.specs.Clauses.{variables, clause_variables};
 ghost use Rattle.cnf_base.specs.Derivation.{accepted, outcome, EndsEmpty, IsRefutation};
 ghost use Rattle.cnf_check.specs.Checked.{clauses_after, AreDistinct, has_empty, HasNoSolution};
@@ -7,6 +8,7 @@ ghost use Rattle.cnf_check.specs.Answer.{Answers};
 use crate::bad::Bad;
 use crate::follow::{falsify, follow_hints};
 use crate::kept::{Effort, Refutation};
+use crate::lookup::clause_at;
 use cnf_base::{Clause, Formula, Hints, Line, Lines, Trail, clause_variables, copied, variables};
 use std::alloc::{AllocError, Global};
 use std::marker::Model;
@@ -53,6 +55,13 @@ impl Checker {
         ensures { result.now ≡ self.now.formula }
     {
         &self.formula
+    }
+
+    /// The clause of this number: the formula's come first, then the lines'.
+    pub fn clause(&self, number: u64) -> Option<&Clause>
+        ensures { option_copied result ≡ slice_get (clauses_after self.now.formula self.now.lines) number }
+    {
+        clause_at(&self.formula, &self.lines, number)
     }
 
     /// The number of the next line.

@@ -377,9 +377,7 @@ AreGroups-group old fixed groups xs g earlier one front filled positive first lo
       all_join (exactly_one v) groups (xs ∷ []) (g.one v (earlier v t.0)) (both_true (exactly_one v xs) true (one v h) refl);
   stated = λ p q.
       let t = all_split (is_calm p) fixed (xs ∷ []) q in
-      let here = and_true (is_calm p xs) true t.1 in
-      let mine = and_true (is_none (lone p xs)) (not (is_all_false p xs)) here.0 in
-      all_join (λ g. not (is_all_false p g)) groups (xs ∷ []) (g.stated p (front p t.0)) (both_true (not (is_all_false p xs)) true mine.1 refl);
+      all_join (is_calm p) groups (xs ∷ []) (g.stated p (front p t.0)) t.1;
   filled = all_join is_filled groups (xs ∷ []) g.filled (both_true (is_filled xs) true filled refl);
   positive = all_join (list_all (λ l. l.positive)) groups (xs ∷ []) g.positive (both_true (list_all (λ l. l.positive) xs) true positive refl);
   free = free-group groups xs first low rising positive g.free;

@@ -83,10 +83,10 @@ pub record IsDetermined (fixed groups : List (List Lit)) (count : ℕ) : Type 0 
 abbrev pub AlwaysChoose : List (List Lit) → List (List Lit) → Type 0
 AlwaysChoose fixed groups = (v : ℕ → Bool) → formula_true v fixed ≡ true → is_choice v groups ≡ true
 
--- what holds of groups: exactly one literal of each is true, a quiet trail makes some literal of each not false, each has a literal, all are positive, and every choice can be made
+-- what holds of groups: exactly one literal of each is true, each is quiet as a clause where the group and gate clauses are, each has a literal, all are positive, and every choice can be made
 pub record AreGroups (fixed groups : List (List Lit)) : Type 0 where
   pub one : AlwaysChoose fixed groups
-  pub stated : (p : Partial) → is_quiet p fixed ≡ true → list_all (λ g. not (is_all_false p g)) groups ≡ true
+  pub stated : (p : Partial) → is_quiet p fixed ≡ true → is_quiet p groups ≡ true
   pub filled : list_all is_filled groups ≡ true
   pub positive : list_all (list_all (λ l. l.positive)) groups ≡ true
   pub free : (places : List ℕ) → ArePlaces groups places → (u : ℕ → Bool) × (is_chosen u groups places ≡ true)

@@ -1,14 +1,13 @@
--- A quiet trail that values every variable satisfies the formula, and two lines differ where one has a literal that the other lacks.
-use Rattle.std.proofs.Common.{◌≡◌, ℕ, ◌<◌, List, [], ◌∷◌, arith, sym, ◌∙◌, Option, Some, None, Bool, true, false, eqb, not, ◌&&◌, ◌||◌, refl}
+-- A quiet trail that values every variable satisfies the formula.
+use Rattle.std.proofs.Common.{◌≡◌, ℕ, ◌<◌, List, [], ◌∷◌, arith, Option, Some, None, Bool, true, false, not, ◌&&◌, ◌||◌, refl}
 use Rattle.std.specs.Prelude.{is_some, is_none, unwrap_or}
 use Rattle.std.specs.Bool.{beq}
 use Rattle.cnf_base.specs.declared.lit.Lit.{Lit}
-use Rattle.cnf_base.specs.Clauses.{is_same, has, is_within, same_literals, lit_true, clause_true, formula_true, clause_variables, variables}
+use Rattle.cnf_base.specs.Clauses.{lit_true, clause_true, formula_true, clause_variables, variables}
 use Rattle.cnf_base.specs.Known.{Partial, is_false, is_value}
 use Rattle.cnf_base.specs.Derivation.{lone, is_all_false}
 use Rattle.cnf_base.proofs.Sound.{and_true}
 use Rattle.cnf_gate.specs.Built.{is_quiet}
-use Rattle.cnf_search.proofs.Accepted.{same_parts}
 
 -- the values of a partial assignment that has all of them
 abbrev pub completed : Partial → ℕ → Bool
@@ -43,33 +42,3 @@ quiet_solved p (c ∷ f) v q =
     let s = and_true (is_none (lone p c) && not (is_all_false p c)) (is_quiet p f) q in
     let t = and_true (is_none (lone p c)) (not (is_all_false p c)) s.0 in
     rw (clause_solved p c (λ n m. v n (omega arith)) (not_false (is_all_false p c) t.1)) (quiet_solved p f (λ n m. v n (omega arith)) s.1)
-
--- a list within another lacks what the other lacks
-lacking : (c d : List Lit) (l : Lit) → is_within c d ≡ true → has c l ≡ true → has d l ≡ true
-lacking [] d l h k = cc
-lacking (m ∷ c) d l h k =
-    let s = and_true (has d m) (is_within c d) h in
-    elim (is_same l m) as (λ b. is_same l m ≡ b → b || has c l ≡ true → has d l ≡ true) [
-      | true ↦ λ e _. moved d m l e s.0
-      | false ↦ λ _ j. lacking c d l s.1 j
-    ] refl k
-  where
-    moved : (d : List Lit) (m l : Lit) → is_same l m ≡ true → has d m ≡ true → has d l ≡ true
-    moved [] m l e j = cc
-    moved (x ∷ d) m l e j =
-        let a = same_parts l m e in
-        let same : is_same l x ≡ is_same m x = λ i. eqb (a.0 i) x.var && beq (a.1 i) x.positive in
-        elim (is_same m x) as (λ b. is_same m x ≡ b → b || has d m ≡ true → is_same l x || has d l ≡ true) [
-          | true ↦ λ t _. rw (same, t) refl
-          | false ↦ λ t i. rw (same, t) (moved d m l e i)
-        ] refl j
-
-pub lines_differ : (c d : List Lit) (l : Lit) → has c l ≡ true → has d l ≡ false → same_literals c d ≡ false
-lines_differ c d l h k =
-    elim (is_within c d) as (λ b. is_within c d ≡ b → b && is_within d c ≡ false) [
-      | true ↦ λ w. let there : has d l ≡ true = lacking c d l w h in let wrong : true ≡ false = sym there ∙ k in absurd (differ wrong)
-      | false ↦ λ _. refl
-    ] refl
-  where
-    differ : true ≡ false → ⊥
-    differ h = cc

@@ -1,5 +1,5 @@
 -- How the lists of an index grow.
-use Rattle.std.proofs.Common.{◌≡◌, ◌≢◌, ℕ, ◌+◌, ◌*◌, ◌<◌, ◌≤◌, suc, zero, List, [], ◌∷◌, ◌++◌, length, take, get_or, set, slice_get, arith, sym, ◌∙◌, Some, Bool, true, false, cond, eqb, ◌||◌, refl, ap, add-one}
+use Rattle.std.proofs.Common.{◌≡◌, ◌≢◌, ℕ, ◌+◌, ◌*◌, ◌<◌, ◌≤◌, suc, zero, List, [], ◌∷◌, ◌++◌, length, take, get_or, set, slice_get, arith, sym, ◌∙◌, Some, Bool, true, false, cond, eqb, ◌||◌, refl, ap, add-one, inl, inr}
 use Rattle.std.specs.List.{list_any}
 use Rattle.std.proofs.lemmas.Bool.Decides.{nat_tests, Decides-eqb}
 use Rattle.cnf_base.specs.declared.lit.Lit.{Lit}
@@ -9,6 +9,7 @@ use Rattle.cnf_gate.proofs.Rungs.{any_end}
 use Rattle.cnf_search.specs.Queue.{place_of, numbers_at, IsIndex, Names}
 use Rattle.cnf_search.proofs.Accepted.{same_parts}
 use Rattle.cnf_search.proofs.Traces.{read_get}
+use Rattle.cnf_search.proofs.Lists.{get_joined}
 
 eqb_refl : (n : ℕ) → eqb n n ≡ true
 eqb_refl n = (Decides-eqb n n).1 refl
@@ -125,3 +126,21 @@ IsBegun-end f g lists number same b h = record { at = λ n c l k there. b.at n c
 
 pub place_below : (l : Lit) (n : ℕ) → l.var < n → place_of l < 2 * n
 place_below l n h = elim l.positive as (λ b. cond b (2 * l.var + 1) (2 * l.var) < 2 * n) [ true ↦ omega arith | false ↦ omega arith ]
+
+-- one more clause, named by the next number
+pub IsIndex-more : (cs : List (List Lit)) (old new : List (List ℕ)) (c : List Lit) (number : ℕ) → IsIndex cs old → Names old new c number → number ≡ length cs → IsIndex (cs ++ c ∷ []) new
+IsIndex-more cs old new c number x s e = record {
+  at = λ n d l g there.
+      elim (get_joined cs (c ∷ []) n d g) [
+        | inl w ↦ s.kept n l (x.at n d l w there)
+        | inr w ↦
+            let o = only w.0 d w.2 in
+            let is : number ≡ n = omega (arith, e, w.1, o.0) in
+            let has_it : has c l ≡ true = ap (λ (z : List Lit). has z l) o.1 ∙ there in
+            ap (λ (k : ℕ). list_any (eqb k) (numbers_at new l)) (sym is) ∙ s.named l has_it
+      ];
+}
+  where
+    only : (j : ℕ) (d : List Lit) → slice_get (c ∷ []) j ≡ Some d → (j ≡ 0) × (c ≡ d)
+    only zero d h = (refl, cc)
+    only (suc j) d h = cc

@@ -1,18 +1,17 @@
 -- One more entry of a trail.
-use Rattle.std.proofs.Common.{◌≡◌, ℕ, ◌+◌, ◌<◌, ◌≤◌, suc, zero, List, [], ◌∷◌, ◌++◌, length, take, map, get_or, slice_get, arith, subst, sym, ◌∙◌, Option, Some, None, Bool, true, false, cond, eqb, not, ◌&&◌, ◌||◌, refl, ap, length-append, append_assoc, add-one}
-use Rattle.std.specs.Prelude.{is_some, is_none}
+use Rattle.std.proofs.Common.{◌≡◌, ℕ, ◌+◌, ◌<◌, ◌≤◌, suc, zero, List, [], ◌∷◌, ◌++◌, length, take, map, get_or, slice_get, arith, subst, sym, ◌∙◌, Option, Some, None, Bool, true, false, cond, eqb, not, ◌&&◌, ◌||◌, refl, ap, length-append, append_assoc}
+use Rattle.std.specs.Prelude.{is_some}
 use Rattle.std.specs.List.{list_all}
 use Rattle.std.proofs.lemmas.Bool.Decides.{Decides-eqb}
 use Rattle.cnf_base.specs.declared.lit.Lit.{Lit}
-use Rattle.cnf_base.specs.Clauses.{is_same, has, clause_variables, negate}
+use Rattle.cnf_base.specs.Clauses.{is_same, has, clause_variables}
 use Rattle.cnf_base.specs.Known.{Partial, is_true, is_false, made_true, value_of}
-use Rattle.cnf_base.specs.Derivation.{rest, only, lone, is_all_false}
+use Rattle.cnf_base.specs.Derivation.{rest, only, lone}
 use Rattle.cnf_base.proofs.Sound.{and_true, beq_refl, some_same}
 use Rattle.cnf_base.proofs.Told.{value_of-push_all}
 use Rattle.cnf_check.proofs.Scan.{only_is}
-use Rattle.cnf_gate.specs.Built.{is_quiet}
 use Rattle.cnf_search.proofs.Accepted.{same_parts}
-use Rattle.cnf_search.specs.Trails.{Entry, IsReason, Why, Explained, after, values, nothing, entries_of, IsTrace, Grows, hint_of, hints_of, decision_of, decisions_of, line_of}
+use Rattle.cnf_search.specs.Trails.{Entry, IsReason, Why, Explained, after, values, nothing, entries_of, IsTrace, Grows}
 
 pub explained_push : (cs : List (List Lit)) (p : Partial) (es : List Entry) (e : Entry) → Explained cs p es → Why cs (after p es) e.reason e.lit → Explained cs p (es ++ e ∷ [])
 explained_push cs p [] e x w = (w, tt)
@@ -47,7 +46,7 @@ take_front (x ∷ xs) ys zero h = refl
 take_front [] ys (suc n) h = absurd (omega arith)
 take_front {X = X} (x ∷ xs) ys (suc n) h = ap (λ (z : List X). x ∷ z) (take_front xs ys n (omega arith))
 
-take_take : {X : Type 0} (xs : List X) (m n : ℕ) → m ≤ n → take m (take n xs) ≡ take m xs
+pub take_take : {X : Type 0} (xs : List X) (m n : ℕ) → m ≤ n → take m (take n xs) ≡ take m xs
 take_take [] zero zero h = refl
 take_take [] zero (suc n) h = refl
 take_take [] (suc m) zero h = refl
@@ -57,7 +56,7 @@ take_take (x ∷ xs) zero (suc n) h = refl
 take_take (x ∷ xs) (suc m) zero h = absurd (omega arith)
 take_take {X = X} (x ∷ xs) (suc m) (suc n) h = ap (λ (z : List X). x ∷ z) (take_take xs m n (omega arith))
 
-length_take : {X : Type 0} (xs : List X) (n : ℕ) → n ≤ length xs → length (take n xs) ≡ n
+pub length_take : {X : Type 0} (xs : List X) (n : ℕ) → n ≤ length xs → length (take n xs) ≡ n
 length_take [] zero h = refl
 length_take [] (suc n) h = absurd (omega arith)
 length_take (x ∷ xs) zero h = refl
@@ -195,19 +194,6 @@ lone_is_reason p c l h = record { others = others (rest p c) refl h; there = the
     there : has c l ≡ true
     there = lifted c (head_there (rest p c) h)
 
--- one more clause that is quiet
-pub quiet-take : (p : Partial) (f : List (List Lit)) (i : ℕ) (c : List Lit) → i < length f → c ≡ get_or f i c → lone p c ≡ None → is_all_false p c ≡ false
-    → is_quiet p (take i f) ≡ true → is_quiet p (take (i + 1) f) ≡ true
-quiet-take p f i c h e k j q = rw add-one (go f i h e q)
-  where
-    go : (f : List (List Lit)) (i : ℕ) → i < length f → c ≡ get_or f i c → is_quiet p (take i f) ≡ true → is_quiet p (take (suc i) f) ≡ true
-    go [] i h e q = absurd (omega arith)
-    go (d ∷ []) zero h e q = let P : List Lit → Type 0 = λ x. is_quiet p (x ∷ []) ≡ true in subst P e (rw (k, j) refl)
-    go (d ∷ b ∷ f) zero h e q = let P : List Lit → Type 0 = λ x. is_quiet p (x ∷ []) ≡ true in subst P e (rw (k, j) refl)
-    go (d ∷ f) (suc i) h e q =
-        let s = and_true (is_none (lone p d) && not (is_all_false p d)) (is_quiet p (take i f)) q in
-        rw s.0 (go f i (omega arith) e s.1)
-
 pub read_get : {X : Type 0} (f : List X) (i : ℕ) (c : X) → i < length f → c ≡ get_or f i c → slice_get f i ≡ Some c
 read_get [] i c h e = absurd (omega arith)
 read_get (d ∷ f) zero c h e = ap Some (sym e)
@@ -221,88 +207,25 @@ has_below (m ∷ c) l h =
       | false ↦ λ _ k. omega (arith, has_below c l k)
     ] refl h
 
--- one entry more in the lists that a conflict's line is made of
-decision_on : (o : Option ℕ) (l : Lit) (xs ys : List Lit) → decision_of o l (xs ++ ys) ≡ decision_of o l xs ++ ys
-decision_on None l xs ys = refl
-decision_on (Some h) l xs ys = refl
-
-hint_on : (o : Option ℕ) (xs ys : List ℕ) → hint_of o (xs ++ ys) ≡ hint_of o xs ++ ys
-hint_on None xs ys = refl
-hint_on (Some h) xs ys = refl
-
-decisions_of-push : (es : List Entry) (e : Entry) → decisions_of (es ++ e ∷ []) ≡ decisions_of es ++ decision_of e.reason e.lit []
-decisions_of-push [] e = refl
-decisions_of-push (y ∷ es) e = ap (decision_of y.reason y.lit) (decisions_of-push es e) ∙ decision_on y.reason y.lit (decisions_of es) (decision_of e.reason e.lit [])
-
-pub hints_of-push : (es : List Entry) (e : Entry) → hints_of (es ++ e ∷ []) ≡ hints_of es ++ hint_of e.reason []
-hints_of-push [] e = refl
-hints_of-push (y ∷ es) e = ap (hint_of y.reason) (hints_of-push es e) ∙ hint_on y.reason (hints_of es) (hint_of e.reason [])
-
-map_join : (xs ys : List Lit) → map negate (xs ++ ys) ≡ map negate xs ++ map negate ys
-map_join [] ys = refl
-map_join (x ∷ xs) ys = ap (λ (z : List Lit). negate x ∷ z) (map_join xs ys)
-
-pub line_of-push : (es : List Entry) (e : Entry) → line_of (es ++ e ∷ []) ≡ line_of es ++ map negate (decision_of e.reason e.lit [])
-line_of-push es e = ap (map negate) (decisions_of-push es e) ∙ map_join (decisions_of es) (decision_of e.reason e.lit [])
-
-pub entries_of-take : (ls : List Lit) (rs : List (Option ℕ)) (i : ℕ) (l : Lit) (r : Option ℕ) → i < length ls → length rs ≡ length ls → l ≡ get_or ls i l → r ≡ get_or rs i r
-    → entries_of (take (i + 1) ls) (take (i + 1) rs) ≡ entries_of (take i ls) (take i rs) ++ (record { lit = l; reason = r }) ∷ []
-entries_of-take ls rs i l r h k e f =
-    let one : i + 1 ≡ suc i = omega arith in
-    ap (λ (n : ℕ). entries_of (take n ls) (take n rs)) one ∙ go ls rs i h k e f
-  where
-    go : (ls : List Lit) (rs : List (Option ℕ)) (i : ℕ) → i < length ls → length rs ≡ length ls → l ≡ get_or ls i l → r ≡ get_or rs i r
-        → entries_of (take (suc i) ls) (take (suc i) rs) ≡ entries_of (take i ls) (take i rs) ++ (record { lit = l; reason = r }) ∷ []
-    go [] rs i h k e f = absurd (omega arith)
-    go (m ∷ ls) [] i h k e f = absurd (omega arith)
-    go (m ∷ ls) (s ∷ rs) zero h k e f = first ls rs (λ i. (record { lit = (sym e) i; reason = (sym f) i }) ∷ [])
-      where
-        first : (ls : List Lit) (rs : List (Option ℕ)) → ◌≡◌ {A = List Entry} ((record { lit = m; reason = s }) ∷ []) ((record { lit = l; reason = r }) ∷ [])
-            → entries_of (take 1 (m ∷ ls)) (take 1 (s ∷ rs)) ≡ (record { lit = l; reason = r }) ∷ []
-        first [] [] h = h
-        first [] (t ∷ rs) h = h
-        first (n ∷ ls) [] h = h
-        first (n ∷ ls) (t ∷ rs) h = h
-    go (m ∷ ls) (s ∷ rs) (suc i) h k e f = ap (λ (z : List Entry). (record { lit = m; reason = s }) ∷ z) (go ls rs i (omega arith) (omega arith) e f)
-
-pub line_step_reason : (ls items : List Lit) (rs : List (Option ℕ)) (i : ℕ) (l : Lit) (r : Option ℕ) (n : ℕ) (clause : List Lit) (numbers new : List ℕ) → items ≡ ls → i < length items
-    → length rs ≡ length ls → l ≡ get_or items i l → r ≡ get_or rs i r → r ≡ Some n
-    → clause ≡ line_of (entries_of (take i ls) (take i rs)) → numbers ≡ hints_of (entries_of (take i ls) (take i rs)) → new ≡ numbers ++ n ∷ []
-    → (clause ≡ line_of (entries_of (take (i + 1) ls) (take (i + 1) rs))) × (new ≡ hints_of (entries_of (take (i + 1) ls) (take (i + 1) rs)))
-line_step_reason ls items rs i l r n clause numbers new same h k e f some c m p =
-    let es : List Entry = entries_of (take i ls) (take i rs) in
-    let y : Entry = record { lit = l; reason = r } in
-    let step : entries_of (take (i + 1) ls) (take (i + 1) rs) ≡ es ++ y ∷ [] =
-    entries_of-take ls rs i l r (omega (arith, ap length same)) k (e ∙ ap (λ (z : List Lit). get_or z i l) same) f in
-    let none : map negate (decision_of r l []) ≡ [] = ap (λ (o : Option ℕ). map negate (decision_of o l [])) some in
-    let one : hint_of r [] ≡ n ∷ [] = ap (λ (o : Option ℕ). hint_of o []) some in (
-      c ∙ sym (ap line_of step ∙ (line_of-push es y ∙ (ap (λ (z : List Lit). line_of es ++ z) none ∙ ends (line_of es)))),
-      p ∙ (ap (λ (z : List ℕ). z ++ n ∷ []) m ∙ sym (ap hints_of step ∙ (hints_of-push es y ∙ ap (λ (z : List ℕ). hints_of es ++ z) one))),
-    )
-  where
-    ends : (xs : List Lit) → xs ++ [] ≡ xs
-    ends [] = refl
-    ends (x ∷ xs) = ap (λ (z : List Lit). x ∷ z) (ends xs)
-
-pub line_step_decision : (ls items : List Lit) (rs : List (Option ℕ)) (i : ℕ) (l : Lit) (r : Option ℕ) (clause new : List Lit) (numbers : List ℕ) → items ≡ ls → i < length items
-    → length rs ≡ length ls → l ≡ get_or items i l → r ≡ get_or rs i r → r ≡ None
-    → clause ≡ line_of (entries_of (take i ls) (take i rs)) → numbers ≡ hints_of (entries_of (take i ls) (take i rs)) → new ≡ clause ++ negate l ∷ []
-    → (new ≡ line_of (entries_of (take (i + 1) ls) (take (i + 1) rs))) × (numbers ≡ hints_of (entries_of (take (i + 1) ls) (take (i + 1) rs)))
-line_step_decision ls items rs i l r clause new numbers same h k e f none c m p =
-    let es : List Entry = entries_of (take i ls) (take i rs) in
-    let y : Entry = record { lit = l; reason = r } in
-    let step : entries_of (take (i + 1) ls) (take (i + 1) rs) ≡ es ++ y ∷ [] =
-    entries_of-take ls rs i l r (omega (arith, ap length same)) k (e ∙ ap (λ (z : List Lit). get_or z i l) same) f in
-    let one : map negate (decision_of r l []) ≡ negate l ∷ [] = ap (λ (o : Option ℕ). map negate (decision_of o l [])) none in
-    let no : hint_of r [] ≡ [] = ap (λ (o : Option ℕ). hint_of o []) none in (
-      p ∙ (ap (λ (z : List Lit). z ++ negate l ∷ []) c ∙ sym (ap line_of step ∙ (line_of-push es y ∙ ap (λ (z : List Lit). line_of es ++ z) one))),
-      m ∙ sym (ap hints_of step ∙ (hints_of-push es y ∙ (ap (λ (z : List ℕ). hints_of es ++ z) no ∙ ends (hints_of es)))),
-    )
-  where
-    ends : (xs : List ℕ) → xs ++ [] ≡ xs
-    ends [] = refl
-    ends (x ∷ xs) = ap (λ (z : List ℕ). x ∷ z) (ends xs)
-
 pub not_some : {X : Type 0} (o : Option X) → ((x : X) → o ≡ Some x → ⊥) → o ≡ None
 not_some None h = refl
 not_some (Some x) h = absurd (h x refl)
+
+pub lits_of_entries : (ls : List Lit) (rs : List (Option ℕ)) → length rs ≡ length ls → map (λ (e : Entry). e.lit) (entries_of ls rs) ≡ ls
+lits_of_entries [] rs k = refl
+lits_of_entries (l ∷ ls) [] k = absurd (omega (arith, k))
+lits_of_entries (l ∷ ls) (r ∷ rs) k = ap (λ (z : List Lit). l ∷ z) (lits_of_entries ls rs (omega (arith, k)))
+
+pub reasons_of_entries : (ls : List Lit) (rs : List (Option ℕ)) → length rs ≡ length ls → map (λ (e : Entry). e.reason) (entries_of ls rs) ≡ rs
+reasons_of_entries [] [] k = refl
+reasons_of_entries [] (r ∷ rs) k = absurd (omega (arith, k))
+reasons_of_entries (l ∷ ls) [] k = absurd (omega (arith, k))
+reasons_of_entries (l ∷ ls) (r ∷ rs) k = ap (λ (z : List (Option ℕ)). r ∷ z) (reasons_of_entries ls rs (omega (arith, k)))
+
+pub entries_of_parts : (es : List Entry) → entries_of (map (λ (e : Entry). e.lit) es) (map (λ (e : Entry). e.reason) es) ≡ es
+entries_of_parts [] = refl
+entries_of_parts (e ∷ es) = ap (λ (z : List Entry). e ∷ z) (entries_of_parts es)
+
+pub length_parts : (es : List Entry) → (length (map (λ (e : Entry). e.lit) es) ≡ length es) × (length (map (λ (e : Entry). e.reason) es) ≡ length es)
+length_parts [] = (refl, refl)
+length_parts (e ∷ es) = let r = length_parts es in (ap suc r.0, ap suc r.1)

@@ -2,18 +2,15 @@
 use Rattle.std.proofs.Common.{◌≡◌, ℕ, ◌+◌, ◌<◌, ◌≤◌, suc, zero, List, [], ◌∷◌, ◌++◌, length, drop, get_or, slice_get, arith, subst, sym, ◌∙◌, Option, Some, None, true, false, refl, ap, append_assoc, drop-cons, add-one}
 use Rattle.std.specs.Prelude.{is_some, IfNone}
 use Rattle.cnf_base.specs.declared.lit.Lit.{Lit}
-use Rattle.cnf_base.specs.declared.line.Line.{Line}
 use Rattle.cnf_base.specs.Known.{Partial, made_true}
 use Rattle.cnf_base.specs.Derivation.{lone, is_all_false}
 use Rattle.cnf_base.proofs.Sound.{some_same}
-use Rattle.cnf_check.specs.Checked.{clauses_after}
 use Rattle.cnf_check.proofs.Scan.{drop_end}
 use Rattle.cnf_gate.proofs.Rungs.{all_join}
 use Rattle.cnf_search.specs.Trails.{Entry, Explained, Grows, HasReason, nothing, values, entries_of}
 use Rattle.cnf_gate.specs.Built.{is_quiet}
 use Rattle.cnf_search.specs.Queue.{is_calm, AreSettled, IsIndex, IsLitAt}
 use Rattle.cnf_search.proofs.Traces.{explained_push, after_push, Grows-none, Grows-push}
-use Rattle.cnf_search.proofs.Fronts.{reason_known}
 use Rattle.cnf_search.proofs.Settled.{settled_calm, settled_forced, settled_push, settled_quiet, quiet_settled}
 
 pub drop_zero : {X : Type 0} (xs : List X) → drop 0 xs ≡ xs
@@ -27,7 +24,7 @@ drop_front (x ∷ xs) ys zero h = refl
 drop_front [] ys (suc n) h = absurd (omega arith)
 drop_front (x ∷ xs) ys (suc n) h = drop_front xs ys n (omega arith)
 
-length_more : {X : Type 0} (xs ys : List X) → length xs ≤ length (xs ++ ys)
+pub length_more : {X : Type 0} (xs ys : List X) → length xs ≤ length (xs ++ ys)
 length_more [] ys = omega arith
 length_more (x ∷ xs) ys = omega (arith, length_more xs ys)
 
@@ -49,13 +46,13 @@ calm_here f p n c e none some d g =
     subst P same (rw (none, some) refl)
 
 -- the clauses before a place were looked at: what was settled but for all numbers is settled but for those from there on
-pub record Visits (f : List (List Lit)) (lines : List Line) (old now : List Entry) (numbers : List ℕ) (i : ℕ) : Type 0 where
-  pub explained : Explained (clauses_after f lines) nothing now
+pub record Visits (f : List (List Lit)) (old now : List Entry) (numbers : List ℕ) (i : ℕ) : Type 0 where
+  pub explained : Explained f nothing now
   pub grows : Grows old now
   pub settled : (k : ℕ) → k ≤ length old → AreSettled f (values old) (drop k old) numbers → AreSettled f (values now) (drop k now) (drop i numbers)
 
-pub Visits-start : (f : List (List Lit)) (lines : List Line) (old : List Entry) (numbers : List ℕ) → Explained (clauses_after f lines) nothing old → Visits f lines old old numbers 0
-Visits-start f lines old numbers x = record {
+pub Visits-start : (f : List (List Lit)) (old : List Entry) (numbers : List ℕ) → Explained f nothing old → Visits f old old numbers 0
+Visits-start f old numbers x = record {
   explained = x;
   grows = Grows-none old;
   settled = λ k b s. let P : List ℕ → Type 0 = λ z. AreSettled f (values old) (drop k old) z in subst P (sym (drop_zero numbers)) s;
@@ -64,9 +61,9 @@ Visits-start f lines old numbers x = record {
 next_of : (numbers : List ℕ) (i : ℕ) → i < length numbers → drop i numbers ≡ get_or numbers i 0 ∷ drop (i + 1) numbers
 next_of numbers i h = rw add-one (drop-cons numbers i 0 h)
 
-pub Visits-quiet : (f : List (List Lit)) (lines : List Line) (old now : List Entry) (numbers : List ℕ) (i : ℕ) → Visits f lines old now numbers i → i < length numbers
-    → ((c : List Lit) → slice_get f (get_or numbers i 0) ≡ Some c → is_calm (values now) c ≡ true) → Visits f lines old now numbers (i + 1)
-Visits-quiet f lines old now numbers i v h calm = record {
+pub Visits-quiet : (f : List (List Lit)) (old now : List Entry) (numbers : List ℕ) (i : ℕ) → Visits f old now numbers i → i < length numbers
+    → ((c : List Lit) → slice_get f (get_or numbers i 0) ≡ Some c → is_calm (values now) c ≡ true) → Visits f old now numbers (i + 1)
+Visits-quiet f old now numbers i v h calm = record {
   explained = v.explained;
   grows = v.grows;
   settled = λ k b s.
@@ -74,12 +71,12 @@ Visits-quiet f lines old now numbers i v h calm = record {
       settled_calm f (values now) (drop k now) (get_or numbers i 0) (drop (i + 1) numbers) (subst P (next_of numbers i h) (v.settled k b s)) calm;
 }
 
-pub Visits-forced : (f : List (List Lit)) (lines : List Line) (old now new : List Entry) (numbers : List ℕ) (i : ℕ) (l : Lit) → Visits f lines old now numbers i → i < length numbers
-    → HasReason f (values now) (get_or numbers i 0) l → new ≡ now ++ (record { lit = l; reason = Some (get_or numbers i 0) }) ∷ [] → Visits f lines old new numbers (i + 1)
-Visits-forced f lines old now new numbers i l v h r e =
+pub Visits-forced : (f : List (List Lit)) (old now new : List Entry) (numbers : List ℕ) (i : ℕ) (l : Lit) → Visits f old now numbers i → i < length numbers
+    → HasReason f (values now) (get_or numbers i 0) l → new ≡ now ++ (record { lit = l; reason = Some (get_or numbers i 0) }) ∷ [] → Visits f old new numbers (i + 1)
+Visits-forced f old now new numbers i l v h r e =
     let entry : Entry = record { lit = l; reason = Some (get_or numbers i 0) } in
-    let P : List Entry → Type 0 = λ z. Explained (clauses_after f lines) nothing z in record {
-      explained = subst P (sym e) (explained_push (clauses_after f lines) nothing now entry v.explained (reason_known f f lines (values now) (get_or numbers i 0) l refl r));
+    let P : List Entry → Type 0 = λ z. Explained f nothing z in record {
+      explained = subst P (sym e) (explained_push f nothing now entry v.explained r);
       grows = Grows-push old now new l (get_or numbers i 0) v.grows e;
       settled = λ k b s.
           let Q : List ℕ → Type 0 = λ z. AreSettled f (values now) (drop k now) z in
@@ -91,9 +88,9 @@ Visits-forced f lines old now new numbers i l v h r e =
           subst S made (subst R late (settled_forced f (values now) (drop k now) (get_or numbers i 0) (drop (i + 1) numbers) entry (subst Q (next_of numbers i h) (v.settled k b s)) r));
     }
 
-pub Visits-end : (f : List (List Lit)) (lines : List Line) (old now : List Entry) (numbers : List ℕ) (i : ℕ) → Visits f lines old now numbers i → length numbers ≤ i
+pub Visits-end : (f : List (List Lit)) (old now : List Entry) (numbers : List ℕ) (i : ℕ) → Visits f old now numbers i → length numbers ≤ i
     → (k : ℕ) → k ≤ length old → AreSettled f (values old) (drop k old) numbers → AreSettled f (values now) (drop k now) []
-Visits-end f lines old now numbers i v h k b s =
+Visits-end f old now numbers i v h k b s =
     let P : List ℕ → Type 0 = λ z. AreSettled f (values now) (drop k now) z in
     subst P (drop_end numbers i h) (v.settled k b s)
 

@@ -1,5 +1,11 @@
 pub mod Trails
 pub mod Lines
+pub mod Levels
+pub mod Moves
+pub mod Passes
+pub mod Backs
+pub mod Unforced
+pub mod Guides
 pub mod Walks
 pub mod Found
 pub mod Ended

@@ -1,18 +1,11 @@
--- Lines against a trail, and the number of choices.
-use Rattle.std.specs.Prelude.{ℕ, ◌*◌, Bool, List, [], ◌∷◌, length}
-use Rattle.std.specs.List.{list_any, list_all}
+-- The clauses that a line may name, and the number of choices.
+use Rattle.std.specs.Prelude.{ℕ, ◌*◌, List, [], ◌∷◌, length}
 use Rattle.cnf_base.specs.declared.lit.Lit.{Lit}
-use Rattle.cnf_base.specs.declared.line.Line.{Line}
-use Rattle.cnf_base.specs.Clauses.{is_within}
-use Rattle.cnf_base.specs.Known.{Partial, is_true}
+use Rattle.cnf_check.specs.Checked.{Checked, clauses_after}
 
--- each line has a literal that is true
-abbrev pub are_true : Partial → List Line → Bool
-are_true p lines = list_all (λ x. list_any (is_true p) x.clause) lines
-
--- each line has all of these literals
-abbrev pub are_over : List Lit → List Line → Bool
-are_over c lines = list_all (λ x. is_within c x.clause) lines
+-- the clauses of the formula and of the lines so far
+abbrev pub known : Checked → List (List Lit)
+known c = clauses_after c.formula c.lines
 
 -- how many ways there are to choose one literal of each group
 abbrev pub choices : List (List Lit) → ℕ

@@ -1,8 +1,8 @@
 -- Why each literal of a trail is true.
-use Rattle.std.specs.Prelude.{◌≡◌, ℕ, true, ◌||◌, Option, Some, None, List, [], ◌∷◌, ◌++◌, slice_get, length, take, ◌≤◌, is_some, map}
+use Rattle.std.specs.Prelude.{◌≡◌, ℕ, true, ◌||◌, Option, Some, None, List, [], ◌∷◌, ◌++◌, slice_get, length, take, ◌≤◌, is_some}
 use Rattle.std.specs.List.{list_all}
 use Rattle.cnf_base.specs.declared.lit.Lit.{Lit}
-use Rattle.cnf_base.specs.Clauses.{is_same, has, negate}
+use Rattle.cnf_base.specs.Clauses.{is_same, has}
 use Rattle.cnf_base.specs.Known.{Partial, is_false, made_true, value_of}
 use Rattle.cnf_base.specs.Derivation.{is_all_false}
 
@@ -36,24 +36,6 @@ Explained cs p (e ∷ es) = Why cs p e.reason e.lit × Explained cs (made_true p
 abbrev pub after : Partial → List Entry → Partial
 after p [] = p
 after p (e ∷ es) = after (made_true p e.lit) es
-
--- the hints of the entries that have a reason, and the decisions
-abbrev pub hint_of : Option ℕ → List ℕ → List ℕ
-hint_of None hs = hs
-hint_of (Some h) hs = h ∷ hs
-
-abbrev pub hints_of : List Entry → List ℕ
-hints_of [] = []
-hints_of (e ∷ es) = hint_of e.reason (hints_of es)
-
--- the entries' decisions have their values, and the others none
-abbrev pub FitsAt : Partial → Option ℕ → Lit → Type 0
-FitsAt d None l = d l.var ≡ Some l.positive
-FitsAt d (Some h) l = d l.var ≡ None
-
-abbrev pub Fits : Partial → List Entry → Type 0
-Fits d [] = Unit {0}
-Fits d (e ∷ es) = FitsAt d e.reason e.lit × Fits d es
 
 -- nothing has a value
 abbrev pub nothing : Partial
@@ -90,15 +72,3 @@ pub record IsConflict (f : List (List Lit)) (p : Partial) (n : ℕ) : Type 0 whe
   pub clause : List Lit
   pub named : slice_get f n ≡ Some clause
   pub fails : is_all_false p clause ≡ true
-
--- the decisions of a trail, and the clause that says that not all of them hold
-abbrev pub decision_of : Option ℕ → Lit → List Lit → List Lit
-decision_of None l ls = l ∷ ls
-decision_of (Some h) l ls = ls
-
-abbrev pub decisions_of : List Entry → List Lit
-decisions_of [] = []
-decisions_of (e ∷ es) = decision_of e.reason e.lit (decisions_of es)
-
-abbrev pub line_of : List Entry → List Lit
-line_of es = map negate (decisions_of es)

@@ -1,117 +1,197 @@
--- What a walk keeps, and what each part of it ends with.
-use Rattle.std.specs.Prelude.{◌≡◌, ℕ, ◌+◌, ◌*◌, ◌<◌, ◌≤◌, true, false, Some, List, [], ◌∷◌, ◌++◌, length, take, drop, slice_get, ◌⊎◌}
+-- What a walk keeps, and what each part of a turn does.
+use Rattle.std.specs.Prelude.{◌≡◌, ℕ, ◌+◌, ◌*◌, ◌-◌, ◌<◌, ◌≤◌, true, false, Some, None, is_some, List, [], ◌∷◌, ◌++◌, length, take, drop, slice_get, slice_index_or}
 use Rattle.std.specs.List.{list_any, list_all}
 use Rattle.cnf_base.specs.declared.lit.Lit.{Lit}
 use Rattle.cnf_base.specs.declared.line.Line.{Line}
-use Rattle.cnf_base.specs.Clauses.{negate, formula_true, variables}
-use Rattle.cnf_base.specs.Known.{is_true, is_false}
-use Rattle.cnf_check.specs.Checked.{clauses_after, AreDistinct}
-use Rattle.cnf_search.specs.Trails.{Explained, values, nothing, line_of, Grows}
+use Rattle.cnf_base.specs.Clauses.{negate, formula_true, variables, clause_variables}
+use Rattle.cnf_base.specs.Known.{is_true}
+use Rattle.cnf_base.specs.Derivation.{EndsEmpty}
+use Rattle.cnf_check.specs.Checked.{AreDistinct}
+use Rattle.cnf_gate.specs.Built.{is_decided, is_filled}
+use Rattle.cnf_search.specs.Trails.{Explained, values, nothing, Grows}
 use Rattle.cnf_search.specs.Ended.{completed}
-use Rattle.cnf_search.specs.Lines.{are_true, are_over}
-use Rattle.cnf_search.specs.Queue.{AreSettled}
+use Rattle.cnf_search.specs.Lines.{known, choices}
+use Rattle.cnf_search.specs.Levels.{spot, AreRanked, AreLevels, AreStarted, refuted, last_depth}
+use Rattle.cnf_search.specs.Moves.{Puts, TakesOff}
+use Rattle.cnf_search.specs.Passes.{IsLearned}
+use Rattle.cnf_search.specs.Unforced.{Unforced}
+use Rattle.cnf_search.specs.Queue.{AreSettled, IsIndex, IsLitAt}
+use Rattle.cnf_search.specs.declared.level.Level.{Level}
 use Rattle.cnf_search.specs.declared.walk.Walk.{Walk}
-use Rattle.cnf_search.specs.declared.walk.Step.{Step}
-use Rattle.cnf_search.specs.declared.walk.Step.TheVariants.{Solved, Refuted, Spent}
+use Rattle.cnf_search.specs.declared.walk.Turn.{Turn}
+use Rattle.cnf_search.specs.declared.walk.Turn.TheVariants.{On, Ended}
+use Rattle.cnf_search.specs.declared.walk.End.{End}
+use Rattle.cnf_search.specs.declared.walk.End.TheVariants.{Solved, Refuted, Spent}
 
--- the clauses that a line may name
-abbrev pub known : Walk → List (List Lit)
-known w = clauses_after w.checker.formula w.checker.lines
-
--- each entry has its reason, each line is true under the trail, and the conflicts that were counted are lines
-pub record IsFit (w : Walk) : Type 0 where
-  pub explained : Explained (known w) nothing w.trace.entries
-  pub covered : are_true (values w.trace.entries) w.checker.lines ≡ true
+-- each entry has its reason, no line asks for the opposite of a decision, no two lines are the same, each has a literal, the index names all clauses, each decision is that of a level, and the lines are within the budget
+pub record IsSound (w : Walk) : Type 0 where
+  pub explained : Explained (known w.checker) nothing w.trace.entries
+  pub unforced : Unforced w.checker.lines nothing w.trace.entries
   pub distinct : AreDistinct w.checker.lines
-  pub counted : w.count ≤ length w.checker.lines
-  pub within : w.count ≤ w.budget
-  pub room : variables w.checker.formula ≤ w.trace.size
+  pub filled : list_all (λ x. is_filled x.clause) w.checker.lines ≡ true
+  pub room : variables (known w.checker) ≤ w.trace.size
+  pub indexed : IsIndex (known w.checker) w.lists.items
+  pub long : 2 * w.trace.size ≤ length w.lists.items
+  pub started : AreStarted w.trace.entries w.levels.items
+  pub within : length w.checker.lines ≤ w.budget
+
+-- the levels are those of the groups, and there are at most as many lines as choices behind the walk
+pub record IsPlaced (gs : List (List Lit)) (w : Walk) : Type 0 where
+  pub levels : AreLevels gs (known w.checker) w.trace.entries 0 w.levels.items
+  pub ranked : AreRanked gs 0 w.levels.items
+  pub spotted : length w.checker.lines ≤ spot gs w.levels.items
+
+-- the entries from a place on, and the clauses from a number on, are still to be looked at
+pub record IsPending (w : Walk) : Type 0 where
+  pub head : w.head ≤ length w.trace.entries
+  pub settled : AreSettled (take w.left (known w.checker)) (values w.trace.entries) (drop w.head w.trace.entries) []
+
+pub record IsWalking (gs : List (List Lit)) (w : Walk) : Type 0 where
+  pub sound : IsSound w
+  pub placed : IsPlaced gs w
+  pub pending : IsPending w
+
+-- what is still ahead: the choices, and then the entries
+abbrev pub ahead : List (List Lit) → Walk → ℕ
+ahead gs w = (choices gs - spot gs w.levels.items) * (w.trace.size + 1) + (w.trace.size - length w.trace.entries)
+
+-- propagation
+pub record Settles (old new : Walk) : Type 0 where
+  pub explained : Explained (known old.checker) nothing new.trace.entries
+  pub grows : Grows old.trace.entries new.trace.entries
+  pub size : new.trace.size ≡ old.trace.size
+  pub checker : new.checker ≡ old.checker
+  pub lists : new.lists.items ≡ old.lists.items
+  pub levels : new.levels.items ≡ old.levels.items
+  pub budget : new.budget ≡ old.budget
+
+-- one more line, which is in the index too
+pub record Keeps (old new : Walk) (line : Line) : Type 0 where
+  pub formula : new.checker.formula ≡ old.checker.formula
+  pub lines : new.checker.lines ≡ old.checker.lines ++ line ∷ []
+  pub indexed : IsIndex (known new.checker) new.lists.items
+  pub long : length new.lists.items ≡ length old.lists.items
+  pub trace : new.trace ≡ old.trace
+  pub levels : new.levels.items ≡ old.levels.items
+  pub budget : new.budget ≡ old.budget
+
+-- the trail ends before the decision at a place again, and then has its negation with a line as reason
+pub record Returns (old new : Walk) (start number : ℕ) : Type 0 where
+  pub level : Level
+  pub off : (before : List Level) × TakesOff old.levels.items before level × (new.levels.items ≡ before ++ refuted level (start + 1) ∷ [])
+  pub decided : level.decided ≡ true
+  pub at : level.start ≡ start
+  pub lit : Lit
+  pub entry : IsLitAt old.trace.entries start lit
+  pub entries : new.trace.entries ≡ take start old.trace.entries ++ (record { lit = negate lit; reason = Some number }) ∷ []
+  pub size : new.trace.size ≡ old.trace.size
+  pub head : new.head ≡ start
+  pub left : new.left ≡ level.known
+  pub checker : new.checker ≡ old.checker
+  pub lists : new.lists.items ≡ old.lists.items
+  pub budget : new.budget ≡ old.budget
+
+-- a line is learned, and the walk goes back to the decision that it refutes
+pub record Learns (old new : Walk) : Type 0 where
+  pub mid : Walk
+  pub line : Line
+  pub start : ℕ
+  pub below : length old.checker.lines < old.budget
+  pub within : clause_variables line.clause ≤ old.trace.size
+  pub learned : IsLearned nothing 0 old.trace.entries line.clause start
+  pub keeps : Keeps old mid line
+  pub returns : Returns mid new start (length (known old.checker))
+
+-- the empty line is learned
+pub record Refutes (old new : Walk) : Type 0 where
+  pub line : Line
+  pub below : length old.checker.lines < old.budget
+  pub keeps : Keeps old new line
+  pub clause : line.clause ≡ []
+
+abbrev pub Fails : Walk → Walk → Turn → Type 0
+Fails old new On = Learns old new
+Fails old new (Ended Solved) = ⊥
+Fails old new (Ended Refuted) = Refutes old new
+Fails old new (Ended Spent) = (old.budget ≤ length old.checker.lines) × (new ≡ old)
+
+-- a literal is decided
+pub record Decides (old new : Walk) (depth value : ℕ) (lit : Lit) : Type 0 where
+  pub entries : new.trace.entries ≡ old.trace.entries ++ (record { lit = lit; reason = None }) ∷ []
+  pub size : new.trace.size ≡ old.trace.size
+  pub short : length new.trace.entries ≤ new.trace.size
+  pub levels : Puts old.levels.items new.levels.items
+      (record { depth = depth; value = value; start = length old.trace.entries; known = length (known old.checker); decided = true })
+  pub head : new.head ≡ length old.trace.entries
+  pub left : new.left ≡ length (known old.checker)
+  pub checker : new.checker ≡ old.checker
+  pub lists : new.lists.items ≡ old.lists.items
+  pub budget : new.budget ≡ old.budget
+
+-- the first group without a true literal, from the last level's on, and its first literal without a value
+pub record IsNext (gs : List (List Lit)) (w : Walk) (depth value : ℕ) (lit : Lit) : Type 0 where
+  pub later : last_depth 0 w.levels.items ≤ depth
+  pub within : depth < length gs
+  pub earlier : is_decided (values w.trace.entries) (take depth gs) ≡ true
+  pub untrue : list_any (is_true (values w.trace.entries)) (slice_index_or gs depth []) ≡ false
+  pub valued : list_all (λ l. is_some (values w.trace.entries l.var)) (take value (slice_index_or gs depth [])) ≡ true
+  pub at : slice_get (slice_index_or gs depth []) value ≡ Some lit
+  pub open_yet : values w.trace.entries lit.var ≡ None
+
+pub record Chosen (gs : List (List Lit)) (old new : Walk) : Type 0 where
+  pub depth : ℕ
+  pub value : ℕ
+  pub lit : Lit
+  pub is : IsNext gs old depth value lit
+  pub decides : Decides old new depth value lit
+
+abbrev pub Chooses : List (List Lit) → Walk → Walk → Turn → Type 0
+Chooses gs old new On = Chosen gs old new
+Chooses gs old new (Ended Solved) = (is_decided (values old.trace.entries) gs ≡ true) × (new ≡ old)
+Chooses gs old new (Ended Refuted) = ⊥
+Chooses gs old new (Ended Spent) = ⊥
 
 -- what stays
-pub record IsKept (old new : Walk) : Type 0 where
-  pub formula : new.checker.formula ≡ old.checker.formula
-  pub size : new.trace.size ≡ old.trace.size
-  pub budget : new.budget ≡ old.budget
+pub record IsKept (f : List (List Lit)) (budget : ℕ) (w : Walk) : Type 0 where
+  pub formula : w.checker.formula ≡ f
+  pub allowed : w.budget ≡ budget
 
--- only the trail's entries may differ
-pub record IsMoved (old new : Walk) : Type 0 where
-  pub checker : new.checker ≡ old.checker
-  pub size : new.trace.size ≡ old.trace.size
-  pub count : new.count ≡ old.count
-  pub budget : new.budget ≡ old.budget
+-- the trail's values satisfy the formula
+pub record IsSolved (w : Walk) : Type 0 where
+  pub holds : formula_true (completed (values w.trace.entries)) w.checker.formula ≡ true
+  pub room : variables w.checker.formula ≤ w.trace.size
 
--- the line of the decisions was added
-pub record Adds (old new : Walk) (n : ℕ) : Type 0 where
-  pub line : Line
-  pub lines : new.checker.lines ≡ old.checker.lines ++ line ∷ []
-  pub clause : line.clause ≡ line_of old.trace.entries
-  pub number : slice_get (known new) n ≡ Some (line_of old.trace.entries)
-  pub formula : new.checker.formula ≡ old.checker.formula
-  pub trace : new.trace ≡ old.trace
-  pub count : new.count ≡ old.count
-  pub budget : new.budget ≡ old.budget
+-- the empty line is the last one
+pub record IsRefuted (w : Walk) : Type 0 where
+  pub ends : EndsEmpty w.checker.lines
+  pub distinct : AreDistinct w.checker.lines
+  pub counted : 0 < w.budget
 
-pub record IsSolved (old new : Walk) : Type 0 where
-  pub kept : IsKept old new
-  pub solved : formula_true (completed (values new.trace.entries)) new.checker.formula ≡ true
+-- the budget is used up, and there were more choices than it
+pub record IsSpent (gs : List (List Lit)) (w : Walk) : Type 0 where
+  pub distinct : AreDistinct w.checker.lines
+  pub many : w.budget ≤ length w.checker.lines
+  pub over : w.budget < choices gs
 
--- the lines that were added have the line of the old decisions in them, and the last is that line
-pub record IsRefuted (old new : Walk) (left n : ℕ) : Type 0 where
-  pub kept : IsKept old new
-  pub more : List Line
-  pub line : Line
-  pub joined : new.checker.lines ≡ old.checker.lines ++ (more ++ line ∷ [])
-  pub over : are_over (line_of old.trace.entries) more ≡ true
-  pub clause : line.clause ≡ line_of old.trace.entries
-  pub number : slice_get (known new) n ≡ Some (line_of old.trace.entries)
-  pub distinct : AreDistinct new.checker.lines
-  pub front : take (length old.trace.entries) new.trace.entries ≡ old.trace.entries
-  pub counted : new.count ≤ length new.checker.lines
-  pub within : new.count ≤ new.budget
-  pub rises : old.count < new.count
-  pub few : new.count ≤ old.count + left
+abbrev pub EndsWith : List (List Lit) → Walk → End → Type 0
+EndsWith gs w Solved = IsSolved w
+EndsWith gs w Refuted = IsRefuted w
+EndsWith gs w Spent = IsSpent gs w
 
--- there were more choices left than the budget allows
-pub record IsSpent (old new : Walk) (left : ℕ) : Type 0 where
-  pub kept : IsKept old new
-  pub distinct : AreDistinct new.checker.lines
-  pub many : new.budget ≤ length new.checker.lines
-  pub few : new.budget < old.count + left
+-- how a turn ends: the walk goes on with less ahead, or it is at its end
+abbrev pub Takes : List (List Lit) → Walk → Walk → Turn → Type 0
+Takes gs old new On = IsWalking gs new × (ahead gs new < ahead gs old)
+Takes gs old new (Ended e) = EndsWith gs new e
 
-abbrev pub Explores : Walk → Walk → ℕ → Step → Type 0
-Explores old new left Solved = IsSolved old new
-Explores old new left (Refuted n) = IsRefuted old new left n
-Explores old new left Spent = IsSpent old new left
-
--- a value was refuted, and is false now by a line
-pub record IsLeft (old new : Walk) (l : Lit) (left : ℕ) : Type 0 where
-  pub kept : IsKept old new
-  pub fit : IsFit new
-  pub more : List Line
-  pub joined : new.checker.lines ≡ old.checker.lines ++ more
-  pub over : are_over (line_of old.trace.entries) more ≡ true
-  pub other : Lit
-  pub negated : other ≡ negate l
-  pub number : ℕ
-  pub entries : new.trace.entries ≡ old.trace.entries ++ (record { lit = other; reason = Some number }) ∷ []
-  pub rises : old.count < new.count
-  pub few : new.count ≤ old.count + left
-
-abbrev pub Leaves : Walk → Walk → Lit → ℕ → Step → Type 0
-Leaves old new l left Solved = IsSolved old new
-Leaves old new l left (Refuted n) = IsLeft old new l left
-Leaves old new l left Spent = IsSpent old new left
-
--- the values of a group before the place `i` are false
-pub record IsTrying (old now : Walk) (group : List Lit) (i left : ℕ) : Type 0 where
-  pub kept : IsKept old now
-  pub fit : IsFit now
-  pub more : List Line
-  pub joined : now.checker.lines ≡ old.checker.lines ++ more
-  pub over : are_over (line_of old.trace.entries) more ≡ true
-  pub grows : Grows old.trace.entries now.trace.entries
-  pub tried : list_all (is_false (values now.trace.entries)) (take i group) ≡ true
-  pub untrue : list_any (is_true (values now.trace.entries)) group ≡ false
-  pub few : now.count ≤ old.count + i * left
-  pub settled : AreSettled now.checker.formula (values now.trace.entries) (drop (length old.trace.entries) now.trace.entries) []
-  pub begun : (old.count < now.count) ⊎ ((now.trace.entries ≡ old.trace.entries) × (now.count ≡ old.count))
+-- a walk that has done nothing yet
+pub record Begins (f : List (List Lit)) (budget : ℕ) (w : Walk) : Type 0 where
+  pub formula : w.checker.formula ≡ f
+  pub lines : w.checker.lines ≡ []
+  pub entries : w.trace.entries ≡ []
+  pub size : w.trace.size ≡ variables f
+  pub indexed : IsIndex f w.lists.items
+  pub long : length w.lists.items ≡ 2 * variables f
+  pub levels : w.levels.items ≡ []
+  pub head : w.head ≡ 0
+  pub left : w.left ≡ 0
+  pub allowed : w.budget ≡ budget

@@ -3,13 +3,12 @@ ghost use Rattle.cnf_base.specs.Clauses.{value_in};
 ghost use Rattle.cnf_search.specs.Trails.{values};
 ghost use Rattle.cnf_search.specs.Ended.{completed};
 ghost use Rattle.cnf_search.specs.Found.{Finds};
-ghost use Rattle.cnf_search.specs.Lines.{choices};
-ghost use Rattle.cnf_search.specs.Walks.{IsFit, Explores};
+ghost use Rattle.cnf_search.specs.Walks.{Begins};
 
 use crate::index::index_of;
 use crate::trace::Trace;
-use crate::walk::{Step, Walk, start};
-use cnf_base::{Assignment, variables};
+use crate::walk::{End, Walk, walk_on};
+use cnf_base::{Assignment, Formula, variables};
 use cnf_check::{Checker, Effort, Refutation};
 use cnf_gate::Circuit;
 use std::alloc::{AllocError, Global};
@@ -39,36 +38,35 @@ fn assignment(alloc: Global, trace: &Trace, count: u32) -> Result<Assignment, Al
     Ok(Assignment::from_vec(list))
 }
 
-/// Walks through the choices of the circuit, with an index of its formula.
-fn walk_through(alloc: Global, walk: &mut Walk, circuit: &Circuit) -> Result<Step, AllocError>
-    requires fit { IsFit walk.old }
-    requires empty { walk.old.trace.entries ≡ [] }
-    requires same { walk.old.checker.formula ≡ circuit.now.fixed ++ circuit.now.required }
-    ensures { IfOk result (λ s. Explores walk.old walk.new (choices circuit.now.groups) s) }
+/// A walk that has done nothing yet.
+fn begin(alloc: Global, formula: &Formula, budget: u64) -> Result<Walk, AllocError>
+    ensures { IfOk result (λ w. Begins formula.now budget w) }
 {
-    let index = index_of(alloc, walk.checker.formula())?;
-    start(alloc, walk, &index, circuit)
+    let count = variables(formula);
+    Ok(Walk {
+        checker: Checker::new(alloc, formula)?,
+        lists: index_of(alloc, formula, count)?,
+        trace: Trace::new(alloc, count)?,
+        levels: Vec::new(alloc),
+        head: 0,
+        left: 0,
+        budget,
+    })
 }
 
 /// Looks for an assignment of the circuit's formula, and counts at most `budget` conflicts.
 ///
-/// It takes the groups and the literals of a group in their order, propagates after each decision, and goes back by one
-/// decision after a conflict. It calls itself once for each group that is decided.
+/// It takes the groups and the literals of a group in their order, and propagates after each decision. From a conflict it
+/// learns a line, goes back to the deepest decision that the line speaks of, and makes that decision false by the line.
 pub fn search(alloc: Global, circuit: &Circuit, budget: u64) -> Result<Found, AllocError>
     ensures { IfOk result (λ f. Finds circuit.now budget f) }
 {
     let formula = circuit.formula();
-    let count = variables(formula);
-    let mut walk = Walk {
-        checker: Checker::new(alloc, formula)?,
-        trace: Trace::new(alloc, count)?,
-        count: 0,
-        budget,
-    };
-    match walk_through(alloc, &mut walk, circuit)? {
-        Step::Solved => Ok(Found::Solved(assignment(alloc, &walk.trace, count)?)),
-        Step::Spent => Ok(Found::Spent(walk.checker.effort())),
-        Step::Refuted(_) => match walk.checker.refutation() {
+    let mut walk = begin(alloc, formula, budget)?;
+    match walk_on(alloc, &mut walk, circuit.groups().slice())? {
+        End::Solved => Ok(Found::Solved(assignment(alloc, &walk.trace, variables(formula))?)),
+        End::Spent => Ok(Found::Spent(walk.checker.effort())),
+        End::Refuted => match walk.checker.refutation() {
             Ok(refutation) => Ok(Found::Refuted(refutation)),
             Err(_) => unreachable!(),
         },

@@ -1,32 +1,34 @@
 //! For each literal, the numbers of the clauses that have it.
 
 ghost use Rattle.std.specs.Prelude.{◌≡◌, ◌<◌, ◌≤◌, ◌*◌, ◌++◌, ◌∷◌, [], length, IfOk, OnOk, slice_set, slice_index_or};
-ghost use Rattle.cnf_base.specs.Clauses.{clause_variables};
+ghost use Rattle.cnf_base.specs.Clauses.{clause_variables, variables};
 ghost use Rattle.cnf_search.specs.Queue.{place_of, numbers_at, IsIndex, Names};
 
 use asm_list::Listed;
-use cnf_base::{Clause, Formula, Lit, variables};
+use cnf_base::{Clause, Formula, Lit};
 use std::alloc::{AllocError, Global};
 
 /// A list of clause numbers for each literal.
-pub type Index = Listed<Listed<u64>>;
+pub type Index = Vec<Listed<u64>>;
 
-/// The index of a formula.
-pub fn index_of(alloc: Global, formula: &Formula) -> Result<Index, AllocError>
-    ensures { IfOk result (λ index. IsIndex formula.now index) }
+/// The index of a formula, with room for the variables below `count`.
+pub fn index_of(alloc: Global, formula: &Formula, count: u32) -> Result<Index, AllocError>
+    requires { variables formula.now ≤ count }
+    ensures index { IfOk result (λ index. IsIndex formula.now index.items) }
+    ensures long { IfOk result (λ index. length index.items ≡ 2 * count) }
 {
-    let mut lists = empty_lists(alloc, 2 * variables(formula) as usize)?;
+    let mut lists = empty_lists(alloc, 2 * count as usize)?;
     for (number, clause) in formula.slice().iter().enumerate() {
         add_clause(&mut lists, clause, number as u64)?;
     }
-    Ok(Index::from_vec(lists))
+    Ok(lists)
 }
 
 /// The numbers of the clauses that have the literal.
 pub fn clauses_with(index: &Index, lit: Lit) -> &[u64]
-    ensures { result.now ≡ numbers_at index.now lit }
+    ensures { result.now ≡ numbers_at index.now.items lit }
 {
-    match index.item(place_of(lit)) {
+    match index.get(place_of(lit)) {
         Some(numbers) => numbers.slice(),
         None => &[],
     }
@@ -50,7 +52,11 @@ fn empty_lists(alloc: Global, count: usize) -> Result<Vec<Listed<u64>>, AllocErr
 }
 
 /// Names the clause in the list of each of its literals.
-fn add_clause(lists: &mut Vec<Listed<u64>>, clause: &Clause, number: u64) -> Result<(), AllocError>
+pub fn add_clause(
+    lists: &mut Vec<Listed<u64>>,
+    clause: &Clause,
+    number: u64,
+) -> Result<(), AllocError>
     requires { 2 * clause_variables clause.now ≤ length lists.old.items }
     ensures len { length lists.new.items ≡ length lists.old.items }
     ensures names { OnOk result (Names lists.old.items lists.new.items clause.now number) }

@@ -2,7 +2,10 @@
 #![tactic(auto)]
 
 mod answer;
+mod back;
 mod index;
+mod learn;
+mod level;
 #[cfg(test)]
 mod tests;
 mod trace;

@@ -1,14 +1,14 @@
-ghost use Rattle.std.specs.Prelude.{◌≡◌, ℕ, ◌<◌, ◌≤◌, ◌++◌, ◌∷◌, [], length, take, None, is_none, OnOk, OnErr, IfOk};
+ghost use Rattle.std.specs.Prelude.{◌≡◌, ℕ, ◌<◌, ◌≤◌, ◌++◌, ◌∷◌, [], length, take, None, is_none, OnOk, OnErr, IfOk, map};
 ghost use Rattle.std.specs.List.{list_any};
 ghost use Rattle.cnf_base.specs.Known.{is_true};
 ghost use Rattle.cnf_base.specs.Clauses.{clause_variables};
 ghost use Rattle.cnf_base.specs.Derivation.{is_all_false, lone};
-ghost use Rattle.cnf_search.specs.Trails.{hints_of, line_of, values};
+ghost use Rattle.cnf_search.specs.Trails.{values};
 ghost use Rattle.cnf_base.specs.Bounds.{IsVariable};
 ghost use Rattle.cnf_search.specs.Ended.{completed};
 ghost use Rattle.cnf_search.specs.Queue.{IsLitAt};
 
-use cnf_base::{Clause, Hints, Line, Lit, Trail};
+use cnf_base::{Clause, Lit, Trail};
 use cnf_check::{is_clause_false, lone_literal};
 use std::alloc::{AllocError, Global};
 use std::marker::Model;
@@ -16,7 +16,6 @@ use std::marker::Model;
 /// The literals that were made true, each with the number of its clause; a decision has none.
 #[derive(Drop, Debug)]
 pub struct Trace {
-    alloc: Global,
     trail: Trail,
     reasons: Vec<Option<u64>>,
 }
@@ -34,12 +33,11 @@ impl Model for Trace {
 impl Trace {
     pub fn new(alloc: Global, size: u32) -> Result<Trace, AllocError>
         ensures entries { IfOk result (λ t. t.entries ≡ []) }
-        ensures size { IfOk result (λ t. size ≤ t.size) }
+        ensures size { IfOk result (λ t. t.size ≡ size) }
     {
         let mut trail = Trail::new(alloc);
         trail.grow(size)?;
         Ok(Trace {
-            alloc,
             trail,
             reasons: Vec::new(alloc),
         })
@@ -53,10 +51,33 @@ impl Trace {
         self.trail.lits().len()
     }
 
+    /// For how many variables it has room.
+    pub fn size(&self) -> usize
+        ensures { result ≡ self.now.size }
+    {
+        self.trail.size()
+    }
+
+    /// The literals, in their order.
+    pub fn lits(&self) -> &[Lit]
+        ensures value { result.now ≡ map (λ e. e.lit) self.now.entries }
+        ensures within { clause_variables result.now ≤ self.now.size }
+    {
+        self.trail.lits()
+    }
+
+    /// The reasons, in their order.
+    pub fn reasons(&self) -> &[Option<u64>]
+        ensures { result.now ≡ map (λ e. e.reason) self.now.entries }
+    {
+        &self.reasons
+    }
+
     /// The literal at a place.
     pub fn lit(&self, place: usize) -> Lit
         requires { place < length self.now.entries }
-        ensures { IsLitAt self.now.entries place result }
+        ensures at { IsLitAt self.now.entries place result }
+        ensures room { result.var < self.now.size }
     {
         let lits = self.trail.lits();
         lits[place]
@@ -133,28 +154,5 @@ impl Trace {
             return Err(error);
         }
         Ok(())
-    }
-}
-
-impl Trace {
-    /// The line that says that not all decisions hold, with the reasons of the trail and a false clause as its hints.
-    pub fn conflict_line(&self, conflict: u64) -> Result<Line, AllocError>
-        ensures clause { IfOk result (λ l. l.clause ≡ line_of self.now.entries) }
-        ensures hints { IfOk result (λ l. l.hints ≡ hints_of self.now.entries ++ conflict ∷ []) }
-    {
-        let mut clause = Clause::new(self.alloc);
-        let mut numbers = Vec::new(self.alloc);
-        for (i, lit) in self.trail.lits().iter().enumerate() {
-            if let Some(number) = self.reasons[i] {
-                numbers.push(number)?;
-                continue;
-            }
-            clause.push(lit.negated())?;
-        }
-        numbers.push(conflict)?;
-        Ok(Line {
-            clause,
-            hints: Hints::from_vec(numbers),
-        })
     }
 }

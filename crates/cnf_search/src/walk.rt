@@ -1,300 +1,240 @@
 //! The walk through the choices of the groups.
 
-ghost use Rattle.std.specs.Prelude.{◌≡◌, ℕ, ◌+◌, ◌<◌, ◌≤◌, ◌++◌, ◌∷◌, [], drop, take, length, IfOk, IfSome, IfNone, OnOk, true, false, None, Some, is_none, slice_index_or, List};
-ghost use Rattle.std.specs.List.{list_any};
-ghost use Rattle.cnf_base.specs.declared.lit.Lit.{Lit};
-ghost use Rattle.cnf_base.specs.Clauses.{variables, clause_variables, has, negate};
+ghost use Rattle.std.specs.Prelude.{◌≡◌, ℕ, ◌+◌, ◌*◌, ◌<◌, ◌≤◌, ◌++◌, ◌∷◌, [], take, length, IfOk, IfSome, IfNone, OnOk, true, false, None, Some, is_none, is_some, slice_index_or};
+ghost use Rattle.std.specs.List.{list_any, list_all};
+ghost use Rattle.cnf_base.specs.Clauses.{variables, clause_variables};
 ghost use Rattle.cnf_base.specs.Known.{is_true};
+ghost use Rattle.cnf_base.specs.Derivation.{accepted, outcome};
 ghost use Rattle.cnf_gate.specs.Built.{is_quiet, is_decided};
-ghost use Rattle.cnf_gate.specs.Circuit.{IsCircuit};
-ghost use Rattle.cnf_search.specs.Trails.{values, IsConflict, Grows, Entry};
-ghost use Rattle.cnf_search.specs.Lines.{choices};
-ghost use Rattle.cnf_search.specs.Queue.{AreSettled, IsIndex};
-ghost use Rattle.cnf_search.specs.Walks.{known, IsFit, IsMoved, Adds, Explores, Leaves};
+ghost use Rattle.cnf_search.specs.Trails.{Explained, nothing, values, IsConflict};
+ghost use Rattle.cnf_search.specs.Lines.{known};
+ghost use Rattle.cnf_search.specs.Levels.{starts_at};
+ghost use Rattle.cnf_search.specs.Queue.{IsIndex};
+ghost use Rattle.cnf_search.specs.Guides.{Guides};
+ghost use Rattle.cnf_search.specs.Walks.{IsSound, IsPlaced, IsPending, IsWalking, Settles, Keeps, Returns, Fails, Decides, Chooses, Takes, IsKept, EndsWith};
 
-use crate::index::Index;
+use crate::index::{Index, add_clause};
+use crate::learn::{Learned, learn};
+use crate::level::{Level, last_depth, put, take_off};
 use crate::trace::Trace;
-use crate::unit::{propagate, visit_all};
-use cnf_base::{Lit, Lits};
+use crate::unit::{numbers_from, propagate, visit};
+use cnf_base::{Line, Lit, Lits};
 use cnf_check::Checker;
-use cnf_gate::Circuit;
 use std::alloc::{AllocError, Global};
 
-/// The lines so far, the trail, and how many conflicts were counted.
+/// The lines so far, the index of all clauses, the trail and the levels.
 #[derive(Drop, Debug)]
 pub struct Walk {
     pub checker: Checker,
+    pub lists: Index,
     pub trace: Trace,
-    pub count: u64,
+    pub levels: Vec<Level>,
+    /// The entries from this place on, and the clauses from the number `left` on, are still to be looked at.
+    pub head: usize,
+    pub left: u64,
+    /// How many conflicts are allowed.
     pub budget: u64,
 }
 
-/// How a part of the walk ended.
+/// How a walk ended.
 #[derive(Drop, Debug)]
-pub enum Step {
+pub enum End {
     /// The trail satisfies the formula.
     Solved,
-    /// The line of this number says that the decisions do not hold together.
-    Refuted(u64),
+    /// The last line is empty.
+    Refuted,
     /// One more conflict would be over the budget.
     Spent,
 }
 
-/// Adds the line of a conflict, and answers its number.
-fn refute(walk: &mut Walk, conflict: u64) -> Result<u64, AllocError>
-    requires fit { IsFit walk.old }
-    requires conflict { IsConflict (known walk.old) (values walk.old.trace.entries) conflict }
-    ensures { IfOk result (λ n. Adds walk.old walk.new n) }
-{
-    let number = walk.checker.next_number();
-    let line = walk.trace.conflict_line(conflict)?;
-    walk.checker.keep(line)?;
-    Ok(number)
-}
-
-/// Counts a conflict and adds its line, where the budget allows it.
-fn fail(walk: &mut Walk, conflict: u64) -> Result<Step, AllocError>
-    requires fit { IsFit walk.old }
-    requires conflict { IsConflict (known walk.old) (values walk.old.trace.entries) conflict }
-    ensures { IfOk result (λ s. Explores walk.old walk.new 1 s) }
-{
-    if walk.count >= walk.budget {
-        return Ok(Step::Spent);
-    }
-    let number = refute(walk, conflict)?;
-    walk.count += 1;
-    Ok(Step::Refuted(number))
-}
-
-/// Looks at each clause once.
-fn sweep(alloc: Global, walk: &mut Walk) -> Result<Option<u64>, AllocError>
-    requires { IsFit walk.old }
-    ensures moved { IsMoved walk.old walk.new }
-    ensures fit { IsFit walk.new }
-    ensures grows { Grows walk.old.trace.entries walk.new.trace.entries }
-    ensures conflict { IfOk result (λ o. IfSome o (λ n. IsConflict (known walk.new) (values walk.new.trace.entries) n)) }
-    ensures settled { IfOk result (λ o. IfNone o (walk.old.trace.entries ≡ [] → AreSettled walk.new.checker.formula (values walk.new.trace.entries) walk.new.trace.entries [])) }
-{
-    visit_all(alloc, &walk.checker, &mut walk.trace)
+/// What a turn comes to.
+#[derive(Drop, Debug)]
+pub enum Turn {
+    /// The walk goes on.
+    On,
+    /// The walk is at its end.
+    Ended(End),
 }
 
 /// Propagates.
-fn settle(walk: &mut Walk, index: &Index, from: usize) -> Result<Option<u64>, AllocError>
-    requires fit { IsFit walk.old }
-    requires indexed { IsIndex walk.old.checker.formula index.now }
-    requires settled { AreSettled walk.old.checker.formula (values walk.old.trace.entries) (drop from walk.old.trace.entries) [] }
-    ensures moved { IsMoved walk.old walk.new }
-    ensures fit { IsFit walk.new }
-    ensures grows { Grows walk.old.trace.entries walk.new.trace.entries }
-    ensures conflict { IfOk result (λ o. IfSome o (λ n. IsConflict (known walk.new) (values walk.new.trace.entries) n)) }
-    ensures quiet { IfOk result (λ o. IfNone o (is_quiet (values walk.new.trace.entries) walk.new.checker.formula ≡ true)) }
+fn settle(alloc: Global, walk: &mut Walk) -> Result<Option<u64>, AllocError>
+    requires sound { IsSound walk.old }
+    requires pending { IsPending walk.old }
+    ensures moved { IfOk result (λ _. Settles walk.old walk.new) }
+    ensures conflict { IfOk result (λ o. IfSome o (λ n. IsConflict (known walk.new.checker) (values walk.new.trace.entries) n)) }
+    ensures quiet { IfOk result (λ o. IfNone o (is_quiet (values walk.new.trace.entries) (known walk.new.checker) ≡ true)) }
 {
-    propagate(&walk.checker, index, &mut walk.trace, from)
+    let numbers = numbers_from(alloc, walk.left, walk.checker.next_number())?;
+    if let Some(conflict) = visit(&walk.checker, &mut walk.trace, &numbers)? {
+        return Ok(Some(conflict));
+    }
+    propagate(&walk.checker, &walk.lists, &mut walk.trace, walk.head)
 }
 
-/// Makes a value true by decision.
-fn decide(walk: &mut Walk, lit: Lit) -> Result<(), AllocError>
-    requires room { lit.var < walk.old.trace.size }
-    requires fresh { values walk.old.trace.entries lit.var ≡ None }
-    ensures moved { IsMoved walk.old walk.new }
-    ensures entries { OnOk result (walk.new.trace.entries ≡ walk.old.trace.entries ++ (record { lit = lit; reason = None }) ∷ []) }
+/// How many lines there are, each of a conflict.
+fn lines(walk: &Walk) -> u64
+    ensures { result ≡ length walk.now.checker.lines }
 {
-    walk.trace.push(lit, None)
+    walk.checker.next_number() - walk.checker.formula().slice().len() as u64
 }
 
-/// Goes back to the first `start` entries, and makes a refuted value false by the line of this number.
-fn flip(walk: &mut Walk, start: usize, lit: Lit, number: u64) -> Result<(), AllocError>
-    requires start { start ≤ length walk.old.trace.entries }
-    requires room { lit.var < walk.old.trace.size }
-    requires fresh { values (take start walk.old.trace.entries) lit.var ≡ None }
-    ensures moved { IsMoved walk.old walk.new }
-    ensures entries { OnOk result ((m : Lit) × (m ≡ negate lit) × (walk.new.trace.entries ≡ take start walk.old.trace.entries ++ (record { lit = m; reason = Some number }) ∷ [])) }
+/// Adds a line, also to the clauses that propagate.
+fn keep_line(walk: &mut Walk, line: Line) -> Result<(), AllocError>
+    requires accepted { outcome (known walk.old.checker) line.clause line.hints ≡ accepted }
+    requires room { 2 * clause_variables line.clause ≤ length walk.old.lists.items }
+    requires indexed { IsIndex (known walk.old.checker) walk.old.lists.items }
+    ensures { OnOk result (Keeps walk.old walk.new line) }
 {
+    let number = walk.checker.next_number();
+    add_clause(&mut walk.lists, &line.clause, number)?;
+    walk.checker.keep(line)?;
+    Ok(())
+}
+
+/// Goes back to before the decision at `start`, and makes it false by the line of this number.
+fn give_back(walk: &mut Walk, start: usize, number: u64) -> Result<(), AllocError>
+    requires explained { Explained (known walk.old.checker) nothing walk.old.trace.entries }
+    requires there { start < length walk.old.trace.entries }
+    requires started { starts_at walk.old.levels.items start ≡ true }
+    ensures { OnOk result (Returns walk.old walk.new start number) }
+{
+    let level = take_off(&mut walk.levels, start);
+    let lit = walk.trace.lit(start);
     walk.trace.undo(start);
-    walk.trace.push(lit.negated(), Some(number))
+    walk.trace.push(lit.negated(), Some(number))?;
+    walk.head = start;
+    walk.left = level.known;
+    let after = walk.trace.len();
+    walk.levels.push(Level {
+        depth: level.depth,
+        value: level.value,
+        start: after,
+        known: level.known,
+        decided: false,
+    })?;
+    Ok(())
 }
 
-fn entries(walk: &Walk) -> usize
-    ensures { result ≡ length walk.now.trace.entries }
+/// Learns from a false clause, and goes back.
+fn fail(alloc: Global, walk: &mut Walk, conflict: u64) -> Result<Turn, AllocError>
+    requires sound { IsSound walk.old }
+    requires conflict { IsConflict (known walk.old.checker) (values walk.old.trace.entries) conflict }
+    ensures { IfOk result (λ t. Fails walk.old walk.new t) }
 {
-    walk.trace.len()
-}
-
-fn has_true(walk: &Walk, group: &Lits) -> bool
-    requires { clause_variables group.now ≤ walk.now.trace.size }
-    ensures { result ≡ list_any (is_true (values walk.now.trace.entries)) group.now }
-{
-    walk.trace.has_true(group)
-}
-
-fn is_open(walk: &Walk, lit: Lit) -> bool
-    requires { lit.var < walk.now.trace.size }
-    ensures { result ≡ is_none (values walk.now.trace.entries lit.var) }
-{
-    walk.trace.is_open(lit)
-}
-
-/// The groups of a circuit.
-fn groups_of(circuit: &Circuit) -> &[Lits]
-    ensures value { result.now ≡ circuit.now.groups }
-    ensures whole { IsCircuit circuit.now.fixed circuit.now.required circuit.now.groups }
-{
-    circuit.groups().slice()
+    if lines(walk) >= walk.budget {
+        return Ok(Turn::Ended(End::Spent));
+    }
+    let Learned { line, found } = learn(alloc, &walk.checker, &walk.trace, conflict)?;
+    let number = walk.checker.next_number();
+    keep_line(walk, line)?;
+    match found {
+        None => Ok(Turn::Ended(End::Refuted)),
+        Some(start) => {
+            give_back(walk, start, number)?;
+            Ok(Turn::On)
+        }
+    }
 }
 
 /// The first group from `depth` on that has no true literal.
-fn next_group(walk: &Walk, circuit: &Circuit, depth: usize) -> usize
-    requires room { variables walk.now.checker.formula ≤ walk.now.trace.size }
-    requires same { walk.now.checker.formula ≡ circuit.now.fixed ++ circuit.now.required }
-    requires decided { is_decided (values walk.now.trace.entries) (take depth circuit.now.groups) ≡ true }
-    requires within { depth ≤ length circuit.now.groups }
+fn next_group(trace: &Trace, groups: &[Lits], depth: usize) -> usize
+    requires room { variables groups.now ≤ trace.now.size }
+    requires earlier { is_decided (values trace.now.entries) (take depth groups.now) ≡ true }
+    requires within { depth ≤ length groups.now }
     ensures later { depth ≤ result }
-    ensures within { result ≤ length circuit.now.groups }
-    ensures decided { is_decided (values walk.now.trace.entries) (take result circuit.now.groups) ≡ true }
-    ensures untrue { result < length circuit.now.groups → list_any (is_true (values walk.now.trace.entries)) (slice_index_or circuit.now.groups result []) ≡ false }
+    ensures within { result ≤ length groups.now }
+    ensures earlier { is_decided (values trace.now.entries) (take result groups.now) ≡ true }
+    ensures untrue { result < length groups.now → list_any (is_true (values trace.now.entries)) (slice_index_or groups.now result []) ≡ false }
 {
-    let groups = groups_of(circuit);
     for place in depth..groups.len() {
-        if !has_true(walk, &groups[place]) {
+        if !trace.has_true(&groups[place]) {
             return place;
         }
     }
     groups.len()
 }
 
-/// Looks at each clause once, and then tries the values of all groups.
-pub fn start(
-    alloc: Global,
-    walk: &mut Walk,
-    index: &Index,
-    circuit: &Circuit,
-) -> Result<Step, AllocError>
-    requires fit { IsFit walk.old }
-    requires empty { walk.old.trace.entries ≡ [] }
-    requires same { walk.old.checker.formula ≡ circuit.now.fixed ++ circuit.now.required }
-    requires indexed { IsIndex walk.old.checker.formula index.now }
-    ensures { IfOk result (λ s. Explores walk.old walk.new (choices circuit.now.groups) s) }
+/// The first literal of a group that has no value.
+fn next_value(trace: &Trace, group: &[Lit]) -> usize
+    requires { clause_variables group.now ≤ trace.now.size }
+    ensures within { result ≤ length group.now }
+    ensures valued { list_all (λ l. is_some (values trace.now.entries l.var)) (take result group.now) ≡ true }
+    ensures open_yet { (d : _) → result < length group.now → is_none (values trace.now.entries (slice_index_or group.now result d).var) ≡ true }
 {
-    let _whole = groups_of(circuit);
-    match sweep(alloc, walk)? {
-        Some(conflict) => Ok(fail(walk, conflict)?),
-        None => Ok(attempt(walk, index, circuit, 0, 0)?),
-    }
-}
-
-/// Propagates, and then tries the values of the groups from `depth` on.
-#[cycle(walk)]
-fn attempt(
-    walk: &mut Walk,
-    index: &Index,
-    circuit: &Circuit,
-    depth: usize,
-    from: usize,
-) -> Result<Step, AllocError>
-    requires fit { IsFit walk.old }
-    requires same { walk.old.checker.formula ≡ circuit.now.fixed ++ circuit.now.required }
-    requires indexed { IsIndex walk.old.checker.formula index.now }
-    requires settled { AreSettled walk.old.checker.formula (values walk.old.trace.entries) (drop from walk.old.trace.entries) [] }
-    requires decided { is_decided (values walk.old.trace.entries) (take depth circuit.now.groups) ≡ true }
-    requires within { depth ≤ length circuit.now.groups }
-    ensures { IfOk result (λ s. Explores walk.old walk.new (choices (drop depth circuit.now.groups)) s) }
-{
-    let _whole = groups_of(circuit);
-    match settle(walk, index, from)? {
-        Some(conflict) => Ok(fail(walk, conflict)?),
-        None => Ok(explore(walk, index, circuit, depth)?),
-    }
-}
-
-/// Tries the values of the groups from `depth` on, where no clause asks for anything.
-#[cycle(walk)]
-fn explore(
-    walk: &mut Walk,
-    index: &Index,
-    circuit: &Circuit,
-    depth: usize,
-) -> Result<Step, AllocError>
-    requires fit { IsFit walk.old }
-    requires same { walk.old.checker.formula ≡ circuit.now.fixed ++ circuit.now.required }
-    requires indexed { IsIndex walk.old.checker.formula index.now }
-    requires quiet { is_quiet (values walk.old.trace.entries) walk.old.checker.formula ≡ true }
-    requires decided { is_decided (values walk.old.trace.entries) (take depth circuit.now.groups) ≡ true }
-    requires within { depth ≤ length circuit.now.groups }
-    ensures { IfOk result (λ s. Explores walk.old walk.new (choices (drop depth circuit.now.groups)) s) }
-{
-    let groups = groups_of(circuit);
-    let place = next_group(walk, circuit, depth);
-    if place == groups.len() {
-        return Ok(Step::Solved);
-    }
-    Ok(choose(walk, index, circuit, place)?)
-}
-
-/// Tries the values of the group at `depth`, one after the other.
-#[cycle(walk)]
-fn choose(
-    walk: &mut Walk,
-    index: &Index,
-    circuit: &Circuit,
-    depth: usize,
-) -> Result<Step, AllocError>
-    requires fit { IsFit walk.old }
-    requires same { walk.old.checker.formula ≡ circuit.now.fixed ++ circuit.now.required }
-    requires indexed { IsIndex walk.old.checker.formula index.now }
-    requires quiet { is_quiet (values walk.old.trace.entries) walk.old.checker.formula ≡ true }
-    requires decided { is_decided (values walk.old.trace.entries) (take depth circuit.now.groups) ≡ true }
-    requires within { depth < length circuit.now.groups }
-    requires untrue { list_any (is_true (values walk.old.trace.entries)) (slice_index_or circuit.now.groups depth []) ≡ false }
-    ensures { IfOk result (λ s. Explores walk.old walk.new (choices (drop depth circuit.now.groups)) s) }
-{
-    let groups = groups_of(circuit);
-    let group = &groups[depth];
-    let from = entries(walk);
-    for lit in group.slice() {
-        if !is_open(walk, *lit) {
-            continue;
-        }
-        match leave(walk, index, circuit, depth, from, *lit)? {
-            Step::Refuted(_) => {}
-            other => return Ok(other),
+    for (place, lit) in group.iter().enumerate() {
+        if trace.is_open(*lit) {
+            return place;
         }
     }
-    match settle(walk, index, from)? {
-        Some(conflict) => Ok(Step::Refuted(refute(walk, conflict)?)),
-        None => unreachable!(),
-    }
+    group.len()
 }
 
-/// Tries one value, and makes it false where it is refuted.
-#[cycle(walk)]
-fn leave(
-    walk: &mut Walk,
-    index: &Index,
-    circuit: &Circuit,
-    depth: usize,
-    from: usize,
-    lit: Lit,
-) -> Result<Step, AllocError>
-    requires fit { IsFit walk.old }
-    requires same { walk.old.checker.formula ≡ circuit.now.fixed ++ circuit.now.required }
-    requires indexed { IsIndex walk.old.checker.formula index.now }
-    requires settled { AreSettled walk.old.checker.formula (values walk.old.trace.entries) (drop from walk.old.trace.entries) [] }
-    requires begun { from ≤ length walk.old.trace.entries }
-    requires decided { is_decided (values walk.old.trace.entries) (take depth circuit.now.groups) ≡ true }
-    requires within { depth < length circuit.now.groups }
-    requires there { has (slice_index_or circuit.now.groups depth []) lit ≡ true }
+/// Makes a value of a group true by decision.
+fn decide(walk: &mut Walk, depth: usize, value: usize, lit: Lit) -> Result<(), AllocError>
     requires room { lit.var < walk.old.trace.size }
     requires fresh { values walk.old.trace.entries lit.var ≡ None }
-    ensures { IfOk result (λ s. Leaves walk.old walk.new lit (choices (drop (depth + 1) circuit.now.groups)) s) }
+    ensures { OnOk result (Decides walk.old walk.new depth value lit) }
 {
-    let _count = groups_of(circuit).len();
-    let start = entries(walk);
-    decide(walk, lit)?;
-    match attempt(walk, index, circuit, depth + 1, from)? {
-        Step::Refuted(number) => {
-            flip(walk, start, lit, number)?;
-            Ok(Step::Refuted(number))
+    let start = walk.trace.len();
+    let known = walk.checker.next_number();
+    put(
+        &mut walk.levels,
+        Level {
+            depth,
+            value,
+            start,
+            known,
+            decided: true,
+        },
+    )?;
+    walk.trace.push(lit, None)?;
+    let _count = walk.trace.len();
+    walk.head = start;
+    walk.left = known;
+    Ok(())
+}
+
+/// Decides the next value, where some group has no true literal.
+fn choose(walk: &mut Walk, groups: &[Lits]) -> Result<Turn, AllocError>
+    requires guided { Guides walk.old.checker.formula groups.now }
+    requires sound { IsSound walk.old }
+    requires placed { IsPlaced groups.now walk.old }
+    requires quiet { is_quiet (values walk.old.trace.entries) (known walk.old.checker) ≡ true }
+    ensures { IfOk result (λ t. Chooses groups.now walk.old walk.new t) }
+{
+    let depth = next_group(&walk.trace, groups, last_depth(&walk.levels));
+    if depth == groups.len() {
+        return Ok(Turn::Ended(End::Solved));
+    }
+    let group = groups[depth].slice();
+    let value = next_value(&walk.trace, group);
+    decide(walk, depth, value, group[value])?;
+    Ok(Turn::On)
+}
+
+/// One turn: propagates, and then goes back or decides.
+fn take_turn(alloc: Global, walk: &mut Walk, groups: &[Lits]) -> Result<Turn, AllocError>
+    requires guided { Guides walk.old.checker.formula groups.now }
+    requires walking { IsWalking groups.now walk.old }
+    ensures takes { IfOk result (λ t. Takes groups.now walk.old walk.new t) }
+    ensures kept { IfOk result (λ _. IsKept walk.old.checker.formula walk.old.budget walk.new) }
+{
+    match settle(alloc, walk)? {
+        Some(conflict) => Ok(fail(alloc, walk, conflict)?),
+        None => Ok(choose(walk, groups)?),
+    }
+}
+
+/// Takes turns until the walk ends.
+pub fn walk_on(alloc: Global, walk: &mut Walk, groups: &[Lits]) -> Result<End, AllocError>
+    requires guided { Guides walk.old.checker.formula groups.now }
+    requires walking { IsWalking groups.now walk.old }
+    ensures ends { IfOk result (λ e. EndsWith groups.now walk.new e) }
+    ensures kept { IfOk result (λ _. IsKept walk.old.checker.formula walk.old.budget walk.new) }
+{
+    loop {
+        if let Turn::Ended(end) = take_turn(alloc, walk, groups)? {
+            return Ok(end);
         }
-        other => Ok(other),
     }
 }

@@ -1,5 +1,7 @@
 use Rattle.std.proofs.Common.{◌<◌, arith, ap, length, subst, ◌∙◌, get_or, List, rules}
 use Rattle.cnf_base.specs.declared.lit.Lit.{Lit}
+use Rattle.cnf_base.specs.Clauses.{clause_variables}
+use Rattle.cnf_base.proofs.VariableBounds.{var_read}
 use Rattle.cnf_search.specs.Trails.{Told}
 use Rattle.cnf_search.specs.Queue.{IsLitAt}
 use Rattle.cnf_search.proofs.Traces.{length-entries_of}
@@ -28,8 +30,8 @@ bounds-lits-place c =
       ap (λ (t : Told). length t.entries) c.self.view_is,
     )
 
-pub returns : goal.returns
-returns c =
+pub returns-clause-at : goal.returns-clause-at
+returns-clause-at c =
     let P : Told → Type 0 = λ t. IsLitAt t.entries c.args.place c.index-lits-place.result in
     let here : c.args.place < length c.self.inside.trail.lits =
     omega (
@@ -41,3 +43,21 @@ returns c =
     subst P c.self.view_is
     (entry_at c.self.inside.trail.lits c.self.inside.reasons.items c.args.place c.index-lits-place.result c.self.invariant.paired here
     (c.index-lits-place.is ∙ ap (λ (z : List Lit). get_or z c.args.place c.index-lits-place.result) c.lits-lits.ensures.value))
+
+pub returns-clause-room : goal.returns-clause-room
+returns-clause-room c =
+    omega (
+      arith,
+      var_read c.lits-lits.result.now c.args.place c.index-lits-place.result
+          (omega (
+            arith,
+            c.requires,
+            ap length c.lits-lits.ensures.value,
+            length-entries_of c.self.inside.trail.lits c.self.inside.reasons.items c.self.invariant.paired,
+            ap (λ (t : Told). length t.entries) c.self.view_is,
+          ))
+          c.index-lits-place.is,
+      ap clause_variables c.lits-lits.ensures.value,
+      c.lits-lits.ensures.within,
+      ap (λ (t : Told). t.size) c.self.view_is,
+    )

@@ -152,3 +152,6 @@ guides_circuit fixed required groups c = record {
   filled = c.grouped.filled;
   within = omega (arith, c.determined.grouped, variables-append fixed required);
 }
+
+pub spent_by : (gs : List (List Lit)) (w : Walk) (e : End) → e ≡ Spent → EndsWith gs w e → IsSpent gs w
+spent_by gs w e is h = let P : End → Type 0 = λ z. EndsWith gs w z in subst P is h

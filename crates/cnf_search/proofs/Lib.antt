@@ -21,3 +21,4 @@ pub mod Returning
 pub mod Taught
 pub mod Choosing
 pub mod Ending
+pub mod Ordered

@@ -10,3 +10,4 @@ pub mod Walks
 pub mod Found
 pub mod Ended
 pub mod Queue
+pub mod Orders

@@ -6,6 +6,7 @@ ghost use Rattle.cnf_search.specs.Found.{Finds};
 ghost use Rattle.cnf_search.specs.Walks.{Begins};
 
 use crate::index::index_of;
+use crate::order::ordered;
 use crate::trace::Trace;
 use crate::walk::{End, Walk, walk_on};
 use cnf_base::{Assignment, Formula, variables};
@@ -56,14 +57,16 @@ fn begin(alloc: Global, formula: &Formula, budget: u64) -> Result<Walk, AllocErr
 
 /// Looks for an assignment of the circuit's formula, and counts at most `budget` conflicts.
 ///
-/// It takes the groups and the literals of a group in their order, and propagates after each decision. From a conflict it
-/// learns a line, goes back to the deepest decision that the line speaks of, and makes that decision false by the line.
+/// It decides the groups in an order that is chosen at the start (`ordered`), the literals of a group in their order, and
+/// propagates after each decision. From a conflict it learns a line, goes back to the deepest decision that the line
+/// speaks of, and makes that decision false by the line.
 pub fn search(alloc: Global, circuit: &Circuit, budget: u64) -> Result<Found, AllocError>
     ensures { IfOk result (λ f. Finds circuit.now budget f) }
 {
     let formula = circuit.formula();
     let mut walk = begin(alloc, formula, budget)?;
-    match walk_on(alloc, &mut walk, circuit.groups().slice())? {
+    let groups = ordered(alloc, &walk.lists, circuit.groups().slice())?;
+    match walk_on(alloc, &mut walk, &groups)? {
         End::Solved => Ok(Found::Solved(assignment(alloc, &walk.trace, variables(formula))?)),
         End::Spent => Ok(Found::Spent(walk.checker.effort())),
         End::Refuted => match walk.checker.refutation() {

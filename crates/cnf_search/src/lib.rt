@@ -6,6 +6,7 @@ mod back;
 mod index;
 mod learn;
 mod level;
+mod order;
 #[cfg(test)]
 mod tests;
 mod trace;

@@ -1,0 +1,5 @@
+pub mod Groups
+pub mod Mergings
+pub mod Onces
+pub mod Places
+pub mod Tuples

@@ -1,0 +1,4 @@
+pub mod Binding
+pub mod Group
+pub mod Merging
+pub mod Tuple

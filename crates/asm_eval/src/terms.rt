@@ -11,10 +11,10 @@ ghost use Rattle.asm_node.specs.Tree.{Const, plain, plain_all};
 ghost use Rattle.asm_eval.specs.Answer.{Answers};
 ghost use Rattle.asm_eval.specs.World.{world_in, reads_by, each_by, value_by, values_by, IsExactBy, AreExactBy};
 
-use crate::apply::apply;
 use crate::bind::{bound, parameters};
 use crate::error::EvalError;
 use crate::location::{constant_of, location_value};
+use crate::operation::apply;
 use crate::quantify::quantified;
 use crate::tuple::tuples_of;
 use crate::world::World;

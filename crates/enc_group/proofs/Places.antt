@@ -37,7 +37,7 @@ length_append : (xs ys : List Value) → length (xs ++ ys) ≡ length xs + lengt
 length_append [] ys = omega arith
 length_append (x ∷ xs) ys = omega (arith, length_append xs ys)
 
-length_values : (es : List Entry) → length (values_in es) ≡ length es
+pub length_values : (es : List Entry) → length (values_in es) ≡ length es
 length_values [] = refl
 length_values (e ∷ es) = omega (arith, length_values es)
 

@@ -1,0 +1,4 @@
+pub mod Branches
+pub mod Guarding
+pub mod Members
+pub mod Standing

@@ -1,0 +1,7 @@
+pub mod Bits
+pub mod Can
+pub mod Cycle
+pub mod Forms
+pub mod Guards
+pub mod Small
+pub mod Weight

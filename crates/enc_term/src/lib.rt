@@ -1,0 +1,16 @@
+//! Terms as groups of literals.
+#![tactic(auto)]
+
+mod bits;
+mod call;
+mod forms;
+mod guards;
+mod operating;
+mod reading;
+
+pub use bits::{Bits, Context, Site, Version};
+pub use call::{call_group, inside};
+pub use forms::{choice, get_group, let_group};
+pub use guards::quantify;
+pub use operating::operate;
+pub use reading::read_group;

@@ -15,6 +15,7 @@ use Rattle.asm_cli.specs.Exit.{OnFault}
 use Rattle.asm_cli.specs.Fault.{fault_text}
 use Rattle.asm_cli.specs.Answer.{Saying, Says, PrintsPart, most_input_bytes, says_outcome}
 use Rattle.asm_cli.specs.Reply.{Replies, Refuses, EndsQuiet}
+use Rattle.asm_text.specs.Texts.{AreShort}
 
 module _ {A : Type 0} {K : Type 0} (written : K → Option (List ℕ)) (faults : K → ℕ) (old new : K) (says : List Source → A → Saying) (o : Outcome A) (now : List Source) (exit : Exit) where
   -- ---- a file has a fault
@@ -46,10 +47,10 @@ module _ {A : Type 0} {K : Type 0} (written : K → Option (List ℕ)) (faults :
 
 -- ---- what was read
 
-all_at_most : (limit : ℕ) (now : List Source) → limit ≤ most_input_bytes → All (λ (source : Source). length source.text ≤ limit) now → All (λ (source : Source). length source.text ≤ most_input_bytes) now
+all_at_most : (limit : ℕ) (now : List Source) → limit ≤ most_input_bytes → All (λ (source : Source). length source.text ≤ limit) now → AreShort now
 all_at_most limit now few short = λ i source within. (let at = short i source within in omega (arith, at, few))
 
-pub all_short : (before now : List Source) → before ≡ [] → AddsFiles most_bytes before now → All (λ (source : Source). length source.text ≤ most_input_bytes) now
+pub all_short : (before now : List Source) → before ≡ [] → AddsFiles most_bytes before now → AreShort now
 all_short before now none adds = all_at_most most_bytes now (omega arith) (subst (λ (l : List Source). All (λ (source : Source). length source.text ≤ most_bytes) l) (sym (adds.now_is ∙ ap (λ (l : List Source). l ++ adds.added) none)) adds.short)
 
 pub units_of : (sources : List Source) (units listed : List LoadedUnit) → listed ≡ units → AreUnits sources units → AreUnits sources listed

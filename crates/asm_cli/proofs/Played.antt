@@ -45,7 +45,7 @@ use Rattle.asm_text.specs.Texts.{line, state_text, stop_line}
 use Rattle.avalla_play.specs.declared.playing.Played.{Played}
 use Rattle.avalla_play.specs.declared.playing.Played.TheVariants as played
 use Rattle.avalla_command.specs.Acts.{Act, Sets, Steps, StepsUntil, Checks, Executes}
-use Rattle.avalla_play.specs.Moves.{Point, Move, stays, ends, after, onward, then_move, stops, kept, unless_broken, point_after, moved, step, worth, judged, spent, steps_until, checked, with_setting, acted, all_acted}
+use Rattle.avalla_play.specs.Moves.{Point, Ended, Move, stays, ends, after, onward, then_move, stops, kept, unless_broken, point_after, moved, step, worth, judged, spent, steps_until, checked, with_setting, acted, all_acted}
 use Rattle.avalla_play.specs.Printed.{Printed, finished, first_point, from_start, begun, play_of}
 use Rattle.avalla_prepare.specs.declared.error.ScenarioError.{ScenarioError}
 use Rattle.avalla_prepare.specs.Prepared.{IsActOf, AreActsOf, command_faults, model_faults, or_missing, or_too_long, scenario_fault}
@@ -77,15 +77,15 @@ SameActs m n _ _ = ⊥
 -- ---- plays
 
 module _ (m n : Machine) (same : MeansTheSame m n) (sources : List Source) where
-  stops_so : (e : Stop) → stops m sources e ≡ stops n sources e
-  stops_so e = λ i. ends (stop_line (same.signature i) sources e) (played.Stopped e)
+  stops_so : (e : Stop) (words : List ℕ) → stops m sources e words ≡ stops n sources e words
+  stops_so e words = λ i. ends (stop_line (same.signature i) sources e) (played.Stopped e) words
 
   states_so : (number : ℕ) (s : State) → numbered_state m number s ≡ numbered_state n number s
   states_so number s = ap (λ (v : Vocabulary). line (codes "state " ++ decimal number) ++ state_text v s) same.signature
 
   broken_by : (o : Option ℕ) (p q : Point) → p ≡ q → unless_broken m sources o p ≡ unless_broken n sources o q
   broken_by None p q e = ap stays e
-  broken_by (Some k) p q e = stops_so (stop.Invariant k)
+  broken_by (Some k) p q e = stops_so (stop.Invariant k) p.words ∙ ap (λ (z : Point). stops n sources (stop.Invariant k) z.words) e
 
   broken_so : (s : State) (p q : Point) → p ≡ q → unless_broken m sources (broken m s) p ≡ unless_broken n sources (broken n s) q
   broken_so s p q e = ap (λ (o : Option ℕ). unless_broken m sources o p) (same.invariants s) ∙ broken_by (broken n s) p q e
@@ -98,7 +98,7 @@ module _ (m n : Machine) (same : MeansTheSame m n) (sources : List Source) where
 
   moved_by : (p : Point) (r : Result (State × List ℕ) Stop) → moved m sources p r ≡ moved n sources p r
   moved_by p (Ok q) = after_so _ _ _ _ (states_so (p.number + 1) q.0) (broken_so q.0 _ _ (points_so p q))
-  moved_by p (Err e) = stops_so e
+  moved_by p (Err e) = stops_so e p.words
 
   step_so : (r q : Rule) → SameSteps m n r q → (p : Point) → step m sources r p ≡ step n sources q p
   step_so r q alike p = ap (moved m sources p) (alike p.state p.input p.words) ∙ moved_by p (next n p.state p.input p.words q)
@@ -106,19 +106,19 @@ module _ (m n : Machine) (same : MeansTheSame m n) (sources : List Source) where
   main_so : (p : Point) → step m sources m.main p ≡ step n sources n.main p
   main_so p = step_so m.main n.main same.steps p
 
-  onward_so : (r : Result Point Played) (f g : Point → Move) → ((p : Point) → f p ≡ g p) → onward r f ≡ onward r g
+  onward_so : (r : Result Point Ended) (f g : Point → Move) → ((p : Point) → f p ≡ g p) → onward r f ≡ onward r g
   onward_so (Ok p) f g e = e p
   onward_so (Err end) f g e = refl
 
   then_so : (x y : Move) (f g : Point → Move) → x ≡ y → ((p : Point) → f p ≡ g p) → then_move x f ≡ then_move y g
   then_so x y f g first rest = ap (λ (z : Move). then_move z f) first ∙ ap (after y.text) (onward_so y.to f g rest)
 
-  judged_by : (o : Outcome Value) (f g : Truth → Move) → ((b : Truth) → f b ≡ g b) → judged m sources o f ≡ judged n sources o g
-  judged_by (Gives v) f g e = e (is_true v)
-  judged_by (Needs l) f g e = stops_so (stop.Input l)
+  judged_by : (words : List ℕ) (o : Outcome Value) (f g : Truth → Move) → ((b : Truth) → f b ≡ g b) → judged m sources words o f ≡ judged n sources words o g
+  judged_by words (Gives v) f g e = e (is_true v)
+  judged_by words (Needs l) f g e = stops_so (stop.Input l) words
 
-  judged_so : (t u : Tree) → SameWorth m n t u → (p : Point) (f g : Truth → Move) → ((b : Truth) → f b ≡ g b) → judged m sources (worth m t p) f ≡ judged n sources (worth n u p) g
-  judged_so t u alike p f g e = ap (λ (o : Outcome Value). judged m sources o f) (alike p) ∙ judged_by (worth n u p) f g e
+  judged_so : (t u : Tree) → SameWorth m n t u → (p : Point) (f g : Truth → Move) → ((b : Truth) → f b ≡ g b) → judged m sources p.words (worth m t p) f ≡ judged n sources p.words (worth n u p) g
+  judged_so t u alike p f g e = ap (λ (o : Outcome Value). judged m sources p.words o f) (alike p) ∙ judged_by p.words (worth n u p) f g e
 
   either_so : (x y z : Move) → y ≡ z → (b : Truth) → (if b then x else y) ≡ (if b then x else z)
   either_so x y z e true = refl
@@ -146,14 +146,14 @@ module _ (m n : Machine) (same : MeansTheSame m n) (sources : List Source) where
   starts_so budget xs ys alike p =
       after_so _ _ _ _ (states_so 0 p.state) (then_so _ _ _ _ (broken_so p.state p p refl) (acts_so budget xs ys alike))
 
-  begins_by : (r : Result State Stop) (f g : State → Printed) → ((s : State) → f s ≡ g s) → begun m sources r f ≡ begun n sources r g
-  begins_by (Ok s) f g e = e s
-  begins_by (Err e) f g is = λ i. record { text = stop_line (same.signature i) sources e; end = played.Stopped e }
+  begins_by : (words : List ℕ) (r : Result State Stop) (f g : State → Printed) → ((s : State) → f s ≡ g s) → begun m sources words r f ≡ begun n sources words r g
+  begins_by words (Ok s) f g e = e s
+  begins_by words (Err e) f g is = λ i. record { text = stop_line (same.signature i) sources e; end = played.Stopped e; words = words }
 
   pub same_play : (xs ys : List Act) → SameActs m n xs ys → (words : List ℕ) (budget : ℕ) → play_of m sources xs words budget ≡ play_of n sources ys words budget
   same_play xs ys alike words budget =
-      ap (λ (r : Result State Stop). begun m sources r (λ s. finished (from_start m sources budget xs (first_point s words)))) same.begins
-      ∙ begins_by (initial n) _ _ (λ s. ap finished (starts_so budget xs ys alike (first_point s words)))
+      ap (λ (r : Result State Stop). begun m sources words r (λ s. finished (from_start m sources budget xs (first_point s words)))) same.begins
+      ∙ begins_by words (initial n) _ _ (λ s. ap finished (starts_so budget xs ys alike (first_point s words)))
 
 -- ---- the commands of a scenario over a model, and over the one whose variables have their names' codes
 

@@ -1,8 +1,10 @@
 -- What is printed of a scenario, by what became of its model and of its commands.
-use Rattle.std.proofs.Common.{◌≡◌, ◌≢◌, ◌∙◌, ℕ, ◌≤◌, List, [], ◌++◌, length, Option, Some, None, refl, sym, ap, subst, inl, arith}
-use Rattle.std.specs.Prelude.{All}
+use Rattle.std.proofs.Common.{◌≡◌, ◌≢◌, ◌∙◌, ℕ, ◌≤◌, ◌^◌, ◌<◌, List, [], ◌++◌, length, Option, Some, None, refl, sym, ap, subst, inl, arith}
+use Rattle.std.specs.Prelude.{All, Ok}
 use Rattle.std.specs.Option.{option_map}
 use Rattle.std.proofs.lemmas.List.Elements.{All-append}
+use Rattle.asm_io.specs.Writes.{Writes}
+use Rattle.asm_run.specs.declared.error.OutError.TheVariants.{Write}
 use Rattle.asm_source.specs.declared.sources.Place.{Place}
 use Rattle.asm_source.specs.declared.sources.Source.{Source}
 use Rattle.asm_tree.specs.declared.script.RawScenario.{RawScenario}
@@ -30,6 +32,7 @@ use Rattle.asm_cli.specs.Plays.{SaysPlay, end_code, play_under, says_prepared, s
 use Rattle.asm_cli.specs.Words.{PlayPlan}
 use Rattle.asm_cli.proofs.Checking.{nothing_said}
 use Rattle.asm_cli.proofs.Serving.{IsGood, good_line}
+use Rattle.asm_text.specs.Texts.{AreShort}
 
 never : {A : Type 0} (x : A) → None ≡ Some x → ⊥
 never x e = cc
@@ -39,11 +42,11 @@ same_some x y e = cc
 
 -- ---- no code is that of bad words
 
-end_is_good : (end : Played) (k : ℕ) → k ≡ end_code end → k ≢ 2
-end_is_good Passed k code = λ is. absurd (omega (arith, code, is))
-end_is_good (CheckFailed n) k code = λ is. absurd (omega (arith, code, is))
-end_is_good (Stopped e) k code = λ is. absurd (omega (arith, code, is))
-end_is_good Budget k code = λ is. absurd (omega (arith, code, is))
+end_is_good : (end : Played) (k : ℕ) → k ≡ end_code end → (k ≢ 2) × (k ≤ 4)
+end_is_good Passed k code = ((λ is. absurd (omega (arith, code, is))), omega (arith, code))
+end_is_good (CheckFailed n) k code = ((λ is. absurd (omega (arith, code, is))), omega (arith, code))
+end_is_good (Stopped e) k code = ((λ is. absurd (omega (arith, code, is))), omega (arith, code))
+end_is_good Budget k code = ((λ is. absurd (omega (arith, code, is))), omega (arith, code))
 
 module _ (plan : PlayPlan) (raw : RawScenario) (sources : List Source) (units : List LoadedUnit) where
   prepared_good : (o : Option ScenarioError) → IsGood (says_prepared plan sources units raw o)
@@ -108,15 +111,26 @@ module _ {K : Type 0} (written : K → Option (List ℕ)) (faults : K → ℕ) (
   prepared_wrong o (TooLong file) told r = wrong_so o (TooLong file) told r
   prepared_wrong o Memory told r = quiet_so o r
 
+-- a play is printed
+pub play_said : {K : Type 0} (written : K → Option (List ℕ)) (faults : K → ℕ) (old new : K) (play other : Printed) (end : Played) (k : ℕ) → Writes written faults old new play.text Write (Ok end) → end ≡ play.end → play ≡ other → k ≡ end_code end
+    → Replies written faults old new (SaysPlay other) (ending.Code k)
+play_said written faults old new play other end k w is same code = record {
+  answer = record { text = play.text; adds = w.ok; is_said = record { text_is = ap (λ (p : Printed). p.text) same; code_is = code ∙ ap end_code (is ∙ ap (λ (p : Printed). p.end) same) } };
+  prefix = tt;
+  no_read = λ e. cc;
+  write_fault = λ e. absurd (cc e);
+  later = w.later;
+}
+
 -- ---- what was read
 
 -- files that are short stay so where short ones are added
-pub short_more : (limit : ℕ) (before now : List Source) → limit ≤ most_input_bytes → All (λ (source : Source). length source.text ≤ most_input_bytes) before → AddsFiles limit before now → All (λ (source : Source). length source.text ≤ most_input_bytes) now
+pub short_more : (limit : ℕ) (before now : List Source) → limit ≤ most_input_bytes → AreShort before → AddsFiles limit before now → AreShort now
 short_more limit before now few short adds =
-    subst (λ (sources : List Source). All (λ (source : Source). length source.text ≤ most_input_bytes) sources) (sym adds.now_is)
-    (All-append (λ (source : Source). length source.text ≤ most_input_bytes) before adds.added short (λ i source within. (let at = adds.short i source within in omega (arith, at, few))))
+    subst AreShort (sym adds.now_is)
+    (All-append (λ (source : Source). length source.text < 2 ^ 31) before adds.added short (λ i source within. (let at = adds.short i source within in omega (arith, at, few))))
 
 -- short files that are the first ones
-pub short_first : (before now : List Source) → before ≡ [] → AddsFiles most_input_bytes before now → All (λ (source : Source). length source.text ≤ most_input_bytes) now
+pub short_first : (before now : List Source) → before ≡ [] → AddsFiles most_input_bytes before now → AreShort now
 short_first before now none adds =
-    subst (λ (sources : List Source). All (λ (source : Source). length source.text ≤ most_input_bytes) sources) (sym (adds.now_is ∙ ap (λ (sources : List Source). sources ++ adds.added) none)) adds.short
+    subst AreShort (sym (adds.now_is ∙ ap (λ (sources : List Source). sources ++ adds.added) none)) (λ i source within. (let at = adds.short i source within in omega (arith, at)))

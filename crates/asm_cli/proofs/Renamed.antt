@@ -100,6 +100,7 @@ module _ {S K : Type 0} (files : S → Option Files) (failed : S → ℕ) (writt
         answer = λ held told. on_code exit _ (s.answer held told) (λ k p. prints_more (written old) (written new) (says_settled plan m held sources) (says_settled plan (coded_machine units) held sources) k (so held sources) p);
         prefix = λ held told. on_fault exit _ (s.prefix held told) (λ p. part_more (written old) (written new) (says_settled plan m held sources) (says_settled plan (coded_machine units) held sources) (so held sources) p);
         good_words = s.good_words;
+        few_codes = s.few_codes;
         read_fault = s.read_fault;
         write_fault = s.write_fault;
         same_files = s.same_files;

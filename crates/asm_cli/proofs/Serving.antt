@@ -1,9 +1,10 @@
 -- Calls that read from a shelf and print answers.
-use Rattle.std.proofs.Common.{◌≡◌, ◌≢◌, ◌≤◌, ◌∙◌, ℕ, List, [], Option, Some, None, Result, Ok, Err, refl, sym, subst, inl, inr, arith}
+use Rattle.std.proofs.Common.{◌≡◌, ◌≢◌, ◌≤◌, ◌∙◌, ℕ, List, [], Option, Some, None, Result, Ok, Err, refl, sym, ap, subst, inl, inr, arith}
 use Rattle.std.specs.Option.{option_map}
 use Rattle.asm_io.specs.Outside.{Files, AddsPart, Rose}
 use Rattle.asm_source.specs.declared.sources.Source.{Source}
 use Rattle.asm_source.specs.declared.sources.Place.{Place}
+use Rattle.asm_io.specs.Writes.{Writes}
 use Rattle.asm_io.proofs.Printing.{part_of_none, rose_after}
 use Rattle.asm_node.specs.Machine.{Machine, Input}
 use Rattle.asm_tree.specs.declared.script.RawInputs.{RawInputs}
@@ -23,12 +24,14 @@ use Rattle.asm_faults.specs.declared.error.ModelError.TheVariants.{Fault, Memory
 use Rattle.asm_resolve.specs.Resolved.{told_of}
 use Rattle.asm_run.specs.declared.run.RunEnd.{RunEnd}
 use Rattle.asm_run.specs.declared.run.RunEnd.TheVariants.{Done, Stopped}
+use Rattle.asm_run.specs.declared.error.OutError.TheVariants.{Write}
+use Rattle.asm_run.specs.Printed.{Printed}
 use Rattle.asm_cli.specs.declared.exit.Exit.{Exit}
 use Rattle.asm_cli.specs.declared.exit.Exit.TheVariants as ends
 use Rattle.asm_cli.specs.Exit.{OnCode, OnFault}
 use Rattle.asm_cli.specs.Fault.{fault_text, model_fault_text, bad_set_text}
 use Rattle.asm_cli.specs.Words.{Plan}
-use Rattle.asm_cli.specs.Answer.{Saying, Says, Prints, PrintsPart, says_outcome, says_bound, says_given, says_sound, says_run, set_place, end_code}
+use Rattle.asm_cli.specs.Answer.{Saying, Says, Prints, PrintsPart, says_outcome, says_bound, says_given, says_sound, says_run, set_place, end_code, SaysRun}
 use Rattle.asm_cli.specs.Reply.{Replies, Refuses, EndsQuiet, Serves}
 use Rattle.asm_cli.proofs.Replying.{on_code, on_fault, prints_more, part_more}
 
@@ -40,16 +43,16 @@ never x e = cc
 
 -- ---- no code is that of bad words
 
--- a relation with no text of bad words
+-- a relation with no text of bad words, and with codes up to 4
 abbrev pub IsGood : Saying → Type 0
-IsGood says = (t : List ℕ) (k : ℕ) → says t k → k ≢ 2
+IsGood says = (t : List ℕ) (k : ℕ) → says t k → (k ≢ 2) × (k ≤ 4)
 
 pub good_line : (line : List ℕ) → IsGood (Says line 3)
-good_line line t k s = λ is. (let code = s.code_is in absurd (omega (arith, code, is)))
+good_line line t k s = (let code = s.code_is in ((λ is. absurd (omega (arith, code, is))), omega (arith, code)))
 
-end_is_good : (end : RunEnd) (k : ℕ) → k ≡ end_code end → k ≢ 2
-end_is_good Done k code = λ is. absurd (omega (arith, code, is))
-end_is_good (Stopped e) k code = λ is. absurd (omega (arith, code, is))
+end_is_good : (end : RunEnd) (k : ℕ) → k ≡ end_code end → (k ≢ 2) × (k ≤ 4)
+end_is_good Done k code = ((λ is. absurd (omega (arith, code, is))), omega (arith, code))
+end_is_good (Stopped e) k code = ((λ is. absurd (omega (arith, code, is))), omega (arith, code))
 
 bound_good : (plan : Plan) (m : Machine) (file : ℕ) (sources : List Source) (raw : RawInputs) (r : Result (List Input) RawName) → IsGood (says_bound plan m file sources raw r)
 bound_good plan m file sources raw (Ok inputs) t k s = end_is_good _ k s.code_is
@@ -67,7 +70,8 @@ module _ {S K : Type 0} (files : S → Option Files) (failed : S → ℕ) (writt
   serves P Q wider good r = record {
     answer = λ held told. on_code exit (Prints (written old) (written new) (Q held)) r.answer (λ k p. record { text = p.text; adds = p.adds; is_said = wider held told p.text k p.is_said });
     prefix = λ held told. on_fault exit (PrintsPart (written old) (written new) (Q held)) r.prefix (λ p. record { text = p.text; adds = p.adds; is_said = elim p.is_said [ inl e ↦ inl e | inr q ↦ inr (q.0, wider held told p.text q.0 q.1) ] });
-    good_words = on_code exit (λ k. k ≢ 2) r.answer (λ k p. good p.text k p.is_said);
+    good_words = on_code exit (λ k. k ≢ 2) r.answer (λ k p. (good p.text k p.is_said).0);
+    few_codes = on_code exit (λ k. k ≤ 4) r.answer (λ k p. (good p.text k p.is_said).1);
     read_fault = λ is. absurd (r.no_read is);
     write_fault = r.write_fault;
     same_files = same;
@@ -96,6 +100,7 @@ module _ {S K : Type 0} (files : S → Option Files) (failed : S → ℕ) (writt
       answer = λ held told. on_code end (Prints (written old) (written new) (says_outcome (says held) (o held))) no_code (λ k no. absurd no);
       prefix = λ held told. none end held;
       good_words = on_code end (λ k. k ≢ 2) no_code (λ k no. absurd no);
+      few_codes = on_code end (λ k. k ≤ 4) no_code (λ k no. absurd no);
       read_fault = read;
       write_fault = λ is. absurd (no_write is);
       same_files = same;
@@ -136,6 +141,7 @@ module _ {S K : Type 0} (files : S → Option Files) (failed : S → ℕ) (writt
         answer = λ held told. on_code exit _ (s.answer held (same ∙ told)) (λ k p. prints_more (written old) (written new) (says held now a) (says_outcome (says held) (o held)) k (wider held told) p);
         prefix = λ held told. on_fault exit _ (s.prefix held (same ∙ told)) (λ p. part_more (written old) (written new) (says held now a) (says_outcome (says held) (o held)) (wider held told) p);
         good_words = s.good_words;
+        few_codes = s.few_codes;
         read_fault = λ is. rose_after (failed shelf) (failed mid) (failed last) later (s.read_fault is);
         write_fault = s.write_fault;
         same_files = s.same_files ∙ same;
@@ -150,6 +156,17 @@ module _ {K : Type 0} (written : K → Option (List ℕ)) (faults : K → ℕ) (
   pub bad_said : (plan : Plan) (m : Machine) (file : ℕ) (sources : List Source) (raw : RawInputs) (at : ℕ) (name : List ℕ) → TellsSet (bad.At at name) (inputs_of m.signature raw)
       → Replies written faults old new (Says (bad_set_text sources (record { file = file; at = at }) name) 3) exit → Replies written faults old new (says_given plan m file sources raw) exit
   bad_said plan m file sources raw at name is r = subst (λ (o : Result (List Input) RawName). Replies written faults old new (says_bound plan m file sources raw o) exit) (sym is) r
+
+-- a run is printed
+pub run_said : {K : Type 0} (written : K → Option (List ℕ)) (faults : K → ℕ) (old new : K) (run other : Printed) (end : RunEnd) (k : ℕ) → Writes written faults old new run.text Write (Ok end) → end ≡ run.end → run ≡ other → k ≡ end_code end
+    → Replies written faults old new (SaysRun other) (ends.Code k)
+run_said written faults old new run other end k w is same code = record {
+  answer = record { text = run.text; adds = w.ok; is_said = record { text_is = ap (λ (p : Printed). p.text) same; code_is = code ∙ ap end_code (is ∙ ap (λ (p : Printed). p.end) same) } };
+  prefix = tt;
+  no_read = λ e. cc;
+  write_fault = λ e. absurd (cc e);
+  later = w.later;
+}
 
 module _ {S K : Type 0} (files : S → Option Files) (failed : S → ℕ) (written : K → Option (List ℕ)) (faults : K → ℕ) (shelf mid : S) (old new : K) (exit : Exit) (plan : Plan) (sources : List Source) (units : List LoadedUnit) where
   abbrev runs_so : Option Found → Type 0

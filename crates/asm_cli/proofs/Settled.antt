@@ -1,13 +1,18 @@
 -- What the tokens of a file that was read last spell.
-use Rattle.std.proofs.Common.{◌≡◌, ◌≢◌, ℕ, List, Result, Ok, Err, sym, ap, subst}
+use Rattle.std.proofs.Common.{◌≡◌, ◌≢◌, ◌∙◌, ℕ, List, [], ◌∷◌, length, slice_get, None, Result, Ok, Err, refl, sym, ap, subst}
 use Rattle.asm_source.specs.Spots.{text_of}
 use Rattle.asm_source.specs.declared.sources.Source.{Source}
 use Rattle.asm_lex.specs.declared.token.Token.{Token}
 use Rattle.asm_unit.specs.declared.error.LoadError.{LoadError}
 use Rattle.asm_unit.specs.declared.error.LoadError.TheVariants.{Absent, TooLong, Read, Lex, Parse, ImportCycle, TooManyFiles, Memory}
-use Rattle.asm_unit.specs.Loading.{Outcome, ended, Follows, Fails, Judges}
+use Rattle.asm_unit.specs.Loading.{Outcome, ended, Follows, Fails, Judges, asked_by, of_end}
 use Rattle.asm_unit.proofs.Outcomes.{front_same}
 use Rattle.asm_cli.specs.Saying.{Reading, spelled, read_as}
+
+-- no file stands after the last
+past : (xs : List Source) → slice_get xs (length xs) ≡ None
+past [] = refl
+past (x ∷ xs) = past xs
 
 module _ {A : Type 0} (now : List Source) where
   abbrev so : Result A LoadError → Outcome A
@@ -16,7 +21,7 @@ module _ {A : Type 0} (now : List Source) where
   fails_so : (end : Result A LoadError) (e : LoadError) → (e ≢ Memory → end ≡ Err e) → Fails (so end) now e
   fails_so end (Absent name) is = ap so (is (λ x. cc))
   fails_so end (TooLong name) is = ap so (is (λ x. cc))
-  fails_so end (Read name) is = front_same now
+  fails_so end (Read name) is = record { front = front_same now; asked = ap (asked_by end) (past now) ∙ ap of_end (is (λ x. cc)) }
   fails_so end (Lex place e) is = ap so (is (λ x. cc))
   fails_so end (Parse place e) is = ap so (is (λ x. cc))
   fails_so end (ImportCycle name) is = ap so (is (λ x. cc))

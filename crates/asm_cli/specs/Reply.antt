@@ -48,11 +48,12 @@ RefusesScenario written faults old new sources (Model resolve.Memory) exit = End
 RefusesScenario written faults old new sources (scenario.TooLong file) exit = Replies written faults old new (Says (scenario_fault_text sources (scenario.TooLong file)) 3) exit
 RefusesScenario written faults old new sources scenario.Memory exit = EndsQuiet written faults old new Memory exit
 
--- It reads from a shelf, and prints a text of this relation with its code, or ends without a code after a prefix of one. No code is that of bad words.
+-- It reads from a shelf, and prints a text of this relation with its code, or ends without a code after a prefix of one. No code is that of bad words, and none is greater than 4.
 pub record Serves {S K : Type 0} (files : S → Option Files) (failed : S → ℕ) (written : K → Option (List ℕ)) (faults : K → ℕ) (shelf_old shelf_new : S) (old new : K) (says : Files → Saying) (exit : Exit) : Type 0 where
   pub answer : Told (files shelf_old) (λ held. OnCode exit (Prints (written old) (written new) (says held)))
   pub prefix : Told (files shelf_old) (λ held. OnFault exit (PrintsPart (written old) (written new) (says held)))
   pub good_words : OnCode exit (λ code. code ≢ 2)
+  pub few_codes : OnCode exit (λ code. code ≤ 4)
   pub read_fault : exit ≡ ReadFault → Rose (failed shelf_old) (failed shelf_new)
   pub write_fault : exit ≡ WriteFault → Rose (faults old) (faults new)
   pub same_files : files shelf_new ≡ files shelf_old

@@ -7,8 +7,9 @@ ghost use Rattle.asm_faults.specs.Check.{model_fault};
 ghost use Rattle.asm_faults.specs.Model.{IsModelOf};
 ghost use Rattle.asm_cli.specs.Counts.{counts_of, counts_text};
 ghost use Rattle.asm_cli.specs.Exit.{OnCode, OnFault};
-ghost use Rattle.asm_cli.specs.Answer.{most_input_bytes, Prints, PrintsPart, Says, says_checked, says_outcome, loaded};
+ghost use Rattle.asm_cli.specs.Answer.{Prints, PrintsPart, Says, says_checked, says_outcome, loaded};
 ghost use Rattle.asm_cli.specs.Reply.{Replies};
+ghost use Rattle.asm_text.specs.Texts.{AreShort};
 
 use crate::counts::counts_line;
 use crate::exit::Exit;
@@ -32,6 +33,7 @@ pub fn check_model<S: Shelf, K: Sink>(
     ensures answer { Told (S.files shelf.old) (λ files. OnCode result (Prints (K.written sink.old) (K.written sink.new) (says_outcome says_checked (loaded files model.now)))) }
     ensures prefix { Told (S.files shelf.old) (λ files. OnFault result (PrintsPart (K.written sink.old) (K.written sink.new) (says_outcome says_checked (loaded files model.now)))) }
     ensures good_words { OnCode result (λ code. code ≢ 2) }
+    ensures few_codes { OnCode result (λ code. code ≤ 4) }
     ensures read_fault { result ≡ Exit.ReadFault → Rose (S.faults shelf.old) (S.faults shelf.new) }
     ensures write_fault { result ≡ Exit.WriteFault → Rose (K.faults sink.old) (K.faults sink.new) }
     ensures files { S.files shelf.new ≡ S.files shelf.old }
@@ -48,7 +50,7 @@ pub fn check_model<S: Shelf, K: Sink>(
 /// Checks the model of these units.
 fn check_units<K: Sink>(alloc: Global, units: &Units, sources: &Sources, sink: &mut K) -> Exit
     requires known { AreUnits sources.now units.now }
-    requires short { All (λ source. length source.text ≤ most_input_bytes) sources.now }
+    requires short { AreShort sources.now }
     ensures { Replies K.written K.faults sink.old sink.new (says_checked sources.now units.now) result }
 {
     match resolve(alloc, units) {

@@ -4,7 +4,8 @@ ghost use Rattle.asm_source.specs.Spots.{text_of};
 ghost use Rattle.asm_lex.specs.Cut.{in_word};
 ghost use Rattle.asm_cli.specs.Fault as spec;
 ghost use Rattle.asm_cli.specs.Reply.{Refuses, Replies};
-ghost use Rattle.asm_cli.specs.Answer.{most_input_bytes, Says};
+ghost use Rattle.asm_cli.specs.Answer.{Says};
+ghost use Rattle.asm_text.specs.Texts.{AreShort};
 
 use crate::exit::Exit;
 use crate::say::say;
@@ -23,7 +24,7 @@ pub fn refuse_load<K: Sink>(
     error: &LoadError,
     sink: &mut K,
 ) -> Exit
-    requires short { All (λ source. length source.text ≤ most_input_bytes) sources.now }
+    requires short { AreShort sources.now }
     ensures { Refuses K.written K.faults sink.old sink.new sources.now error.now result }
 {
     match error {
@@ -40,7 +41,7 @@ pub fn refuse_load<K: Sink>(
 
 /// Prints the line of a file's fault.
 fn say_fault<K: Sink>(alloc: Global, sources: &Sources, error: &LoadError, sink: &mut K) -> Exit
-    requires short { All (λ source. length source.text ≤ most_input_bytes) sources.now }
+    requires short { AreShort sources.now }
     ensures { Replies K.written K.faults sink.old sink.new (Says (spec.fault_text sources.now error.now) 3) result }
 {
     match fault_line(alloc, sources, error) {
@@ -50,7 +51,7 @@ fn say_fault<K: Sink>(alloc: Global, sources: &Sources, error: &LoadError, sink:
 }
 
 fn fault_line(alloc: Global, sources: &Sources, error: &LoadError) -> Result<Text, AllocError>
-    requires short { All (λ source. length source.text ≤ most_input_bytes) sources.now }
+    requires short { AreShort sources.now }
     ensures { IfOk result (λ text. text ≡ spec.fault_text sources.now error.now ++ 10 ∷ []) }
 {
     let mut text = Text::new(alloc);
@@ -60,7 +61,7 @@ fn fault_line(alloc: Global, sources: &Sources, error: &LoadError) -> Result<Tex
 }
 
 fn append_fault(text: &mut Text, sources: &Sources, error: &LoadError) -> Result<(), AllocError>
-    requires short { All (λ source. length source.text ≤ most_input_bytes) sources.now }
+    requires short { AreShort sources.now }
     ensures { OnOk result (text.new ≡ text.old ++ spec.fault_text sources.now error.now) }
 {
     match error {

@@ -25,6 +25,7 @@ pub fn format_file<S: Shelf, K: Sink>(
     ensures answer { Told (S.files shelf.old) (λ files. OnCode result (Prints (K.written sink.old) (K.written sink.new) (says_outcome says_canonical (alone files model.now)))) }
     ensures prefix { Told (S.files shelf.old) (λ files. OnFault result (PrintsPart (K.written sink.old) (K.written sink.new) (says_outcome says_canonical (alone files model.now)))) }
     ensures good_words { OnCode result (λ code. code ≢ 2) }
+    ensures few_codes { OnCode result (λ code. code ≤ 4) }
     ensures read_fault { result ≡ Exit.ReadFault → Rose (S.faults shelf.old) (S.faults shelf.new) }
     ensures write_fault { result ≡ Exit.WriteFault → Rose (K.faults sink.old) (K.faults sink.new) }
     ensures files { S.files shelf.new ≡ S.files shelf.old }

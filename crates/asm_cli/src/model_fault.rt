@@ -3,7 +3,8 @@ ghost use Rattle.std.specs.Prelude.{◌≡◌, ◌≤◌, ◌++◌, ◌∷◌, [
 ghost use Rattle.asm_text.specs.Texts.{place_text};
 ghost use Rattle.asm_cli.specs.Fault.{model_message, model_fault_text, bad_set_text, name_in, no_block_text};
 ghost use Rattle.asm_cli.specs.Reply.{Replies, RefusesScenario};
-ghost use Rattle.asm_cli.specs.Answer.{most_input_bytes, Says};
+ghost use Rattle.asm_cli.specs.Answer.{Says};
+ghost use Rattle.asm_text.specs.Texts.{AreShort};
 
 use crate::exit::Exit;
 use crate::say::say;
@@ -24,7 +25,7 @@ pub fn refuse_model<K: Sink>(
     place: Place,
     sink: &mut K,
 ) -> Exit
-    requires { All (λ source. length source.text ≤ most_input_bytes) sources.now }
+    requires { AreShort sources.now }
     ensures { Replies K.written K.faults sink.old sink.new (Says (model_fault_text sources.now kind name.now place) 3) result }
 {
     match line(alloc, sources, message(kind), name, place) {
@@ -41,7 +42,7 @@ pub fn refuse_set<K: Sink>(
     place: Place,
     sink: &mut K,
 ) -> Exit
-    requires { All (λ source. length source.text ≤ most_input_bytes) sources.now }
+    requires { AreShort sources.now }
     ensures { Replies K.written K.faults sink.old sink.new (Says (bad_set_text sources.now place name.now) 3) result }
 {
     match line(alloc, sources, ": bad set: ", name, place) {
@@ -57,7 +58,7 @@ pub fn refuse_scenario<K: Sink>(
     error: &ScenarioError,
     sink: &mut K,
 ) -> Exit
-    requires { All (λ source. length source.text ≤ most_input_bytes) sources.now }
+    requires { AreShort sources.now }
     ensures { RefusesScenario K.written K.faults sink.old sink.new sources.now error.now result }
 {
     match error {
@@ -80,7 +81,7 @@ fn refuse_block<K: Sink>(
     place: Place,
     sink: &mut K,
 ) -> Exit
-    requires { All (λ source. length source.text ≤ most_input_bytes) sources.now }
+    requires { AreShort sources.now }
     ensures { Replies K.written K.faults sink.old sink.new (Says (no_block_text sources.now place name.now) 3) result }
 {
     match block_line(alloc, sources, name, place) {
@@ -95,7 +96,7 @@ fn block_line(
     name: &Name,
     place: Place,
 ) -> Result<Text, AllocError>
-    requires { All (λ source. length source.text ≤ most_input_bytes) sources.now }
+    requires { AreShort sources.now }
     ensures { IfOk result (λ text. text ≡ no_block_text sources.now place name.now ++ 10 ∷ []) }
 {
     line(alloc, sources, ": no such block: ", name, place)
@@ -139,7 +140,7 @@ fn line(
     name: &Name,
     place: Place,
 ) -> Result<Text, AllocError>
-    requires { All (λ source. length source.text ≤ most_input_bytes) sources.now }
+    requires { AreShort sources.now }
     ensures { IfOk result (λ text. text ≡ (place_text sources.now place ++ (reason.now ++ name.now)) ++ 10 ∷ []) }
 {
     let mut text = Text::new(alloc);

@@ -9,9 +9,10 @@ ghost use Rattle.avalla_command.specs.Acts.{IsAct, acts_of};
 ghost use Rattle.avalla_play.specs.Printed.{play_of};
 ghost use Rattle.avalla_prepare.specs.Prepared.{scenario_fault};
 ghost use Rattle.asm_cli.specs.Reply.{Replies, Serves};
-ghost use Rattle.asm_cli.specs.Saying.{most_input_bytes, says_outcome};
+ghost use Rattle.asm_cli.specs.Saying.{says_outcome};
 ghost use Rattle.asm_cli.specs.Plays.{SaysPlay, loaded_by, model_named, says_loaded, says_play, says_prepared, says_scenario};
 ghost use Rattle.asm_cli.specs.Words.{play_plan_seen};
+ghost use Rattle.asm_text.specs.Texts.{AreShort};
 
 use crate::command::ScenarioPlay;
 use crate::exit::Exit;
@@ -56,12 +57,10 @@ fn play_read<S: Shelf, K: Sink>(
     shelf: &mut S,
     sink: &mut K,
 ) -> Exit
-    requires { All (λ source. length source.text ≤ most_input_bytes) sources.old }
+    requires few { length sources.old < 2 ^ 31 }
+    requires short { AreShort sources.old }
     ensures { Serves S.files S.faults K.written K.faults shelf.old shelf.new sink.old sink.new (λ files. says_scenario (play_plan_seen plan.entry) files sources.old raw.now) result }
 {
-    if sources.len() >= 1 << 31 {
-        return Exit::Memory;
-    }
     match model_name(alloc, plan.scenario, raw) {
         Ok(model) => play_over(alloc, plan, raw, &model, sources, shelf, sink),
         Err(_) => Exit::Memory,
@@ -87,7 +86,7 @@ fn play_over<S: Shelf, K: Sink>(
     sink: &mut K,
 ) -> Exit
     requires few { length sources.old < 2 ^ 31 }
-    requires short { All (λ source. length source.text ≤ most_input_bytes) sources.old }
+    requires short { AreShort sources.old }
     requires named { model.now ≡ model_named (play_plan_seen plan).scenario raw.now }
     ensures { Serves S.files S.faults K.written K.faults shelf.old shelf.new sink.old sink.new (λ files. says_scenario (play_plan_seen plan.entry) files sources.old raw.now) result }
 {
@@ -107,7 +106,7 @@ fn play_units<K: Sink>(
     sink: &mut K,
 ) -> Exit
     requires known { AreUnits sources.now units.now }
-    requires short { All (λ source. length source.text ≤ most_input_bytes) sources.now }
+    requires short { AreShort sources.now }
     ensures { Replies K.written K.faults sink.old sink.new (says_loaded (play_plan_seen plan.entry) raw.now sources.now units.now) result }
 {
     match resolve(alloc, units) {
@@ -131,7 +130,7 @@ fn play_in<K: Sink>(
 ) -> Exit
     requires model { IsModelOf units.now (machine_of model.now) }
     requires faultless { model_fault units.now ≡ None }
-    requires short { All (λ source. length source.text ≤ most_input_bytes) sources.now }
+    requires short { AreShort sources.now }
     ensures { Replies K.written K.faults sink.old sink.new (says_prepared (play_plan_seen plan.entry) sources.now units.now raw.now (scenario_fault (coded_machine units.now) 0 raw.now)) result }
 {
     numbers_are_free();
@@ -159,7 +158,7 @@ fn play_prepared<K: Sink>(
 ) -> Exit
     requires acts { All (IsAct (machine_of model.now)) (acts_of commands.now) }
     requires few { length commands.now ≤ 100000 }
-    requires short { All (λ source. length source.text ≤ most_input_bytes) sources.now }
+    requires short { AreShort sources.now }
     ensures { Replies K.written K.faults sink.old sink.new (SaysPlay (play_of (machine_of model.now) sources.now (acts_of commands.now) choices budget)) result }
 {
     let mut words = Words::of(choices);

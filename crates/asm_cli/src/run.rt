@@ -8,9 +8,10 @@ ghost use Rattle.asm_renaming.specs.Coded.{coded_machine};
 ghost use Rattle.asm_faults.specs.Model.{IsModelOf};
 ghost use Rattle.asm_run.specs.Printed.{run_of};
 ghost use Rattle.asm_cli.specs.Exit.{OnCode, OnFault};
-ghost use Rattle.asm_cli.specs.Answer.{most_input_bytes, Prints, PrintsPart, SaysRun, says_given, says_settled, says_run, says_outcome, loaded};
+ghost use Rattle.asm_cli.specs.Answer.{Prints, PrintsPart, SaysRun, says_given, says_settled, says_run, says_outcome, loaded};
 ghost use Rattle.asm_cli.specs.Reply.{Replies, Serves};
 ghost use Rattle.asm_cli.specs.Words.{plan_seen};
+ghost use Rattle.asm_text.specs.Texts.{AreShort};
 
 use crate::command::Run;
 use crate::exit::Exit;
@@ -39,6 +40,7 @@ pub fn run_model<S: Shelf, K: Sink>(
     ensures answer { Told (S.files shelf.old) (λ files. OnCode result (Prints (K.written sink.old) (K.written sink.new) (says_outcome (says_run (plan_seen run.entry) files) (loaded files (plan_seen run.entry).model)))) }
     ensures prefix { Told (S.files shelf.old) (λ files. OnFault result (PrintsPart (K.written sink.old) (K.written sink.new) (says_outcome (says_run (plan_seen run.entry) files) (loaded files (plan_seen run.entry).model)))) }
     ensures good_words { OnCode result (λ code. code ≢ 2) }
+    ensures few_codes { OnCode result (λ code. code ≤ 4) }
     ensures read_fault { result ≡ Exit.ReadFault → Rose (S.faults shelf.old) (S.faults shelf.new) }
     ensures write_fault { result ≡ Exit.WriteFault → Rose (K.faults sink.old) (K.faults sink.new) }
     ensures files { S.files shelf.new ≡ S.files shelf.old }
@@ -63,7 +65,7 @@ fn run_units<S: Shelf, K: Sink>(
 ) -> Exit
     requires known { AreUnits sources.old units.now }
     requires few { length sources.old < 2 ^ 31 }
-    requires short { All (λ source. length source.text ≤ most_input_bytes) sources.old }
+    requires short { AreShort sources.old }
     ensures { Serves S.files S.faults K.written K.faults shelf.old shelf.new sink.old sink.new (λ files. says_run (plan_seen run.entry) files sources.old units.now) result }
 {
     match resolve(alloc, units) {
@@ -87,7 +89,7 @@ fn run_in<S: Shelf, K: Sink>(
 ) -> Exit
     requires model { IsModelOf units.now (machine_of model.now) }
     requires few { length sources.old < 2 ^ 31 }
-    requires short { All (λ source. length source.text ≤ most_input_bytes) sources.old }
+    requires short { AreShort sources.old }
     ensures { Serves S.files S.faults K.written K.faults shelf.old shelf.new sink.old sink.new (λ files. says_settled (plan_seen run.entry) (coded_machine units.now) files sources.old) result }
 {
     let _units = units;
@@ -105,7 +107,7 @@ fn run_settled<S: Shelf, K: Sink>(
     sink: &mut K,
 ) -> Exit
     requires few { length sources.old < 2 ^ 31 }
-    requires short { All (λ source. length source.text ≤ most_input_bytes) sources.old }
+    requires short { AreShort sources.old }
     ensures { Serves S.files S.faults K.written K.faults shelf.old shelf.new sink.old sink.new (λ files. says_settled (plan_seen run.entry) (machine_of model.now) files sources.old) result }
 {
     let file = sources.len() as u32;
@@ -125,7 +127,7 @@ fn run_given<K: Sink>(
     sources: &Sources,
     sink: &mut K,
 ) -> Exit
-    requires { All (λ source. length source.text ≤ most_input_bytes) sources.now }
+    requires { AreShort sources.now }
     ensures { Replies K.written K.faults sink.old sink.new (says_given (plan_seen run.entry) (machine_of model.now) file sources.now raw.now) result }
 {
     let steps = steps_in(run.steps, raw);
@@ -157,7 +159,7 @@ fn run_under<K: Sink>(
     sink: &mut K,
 ) -> Exit
     requires inputs { All (IsInput (machine_of model.now)) inputs.now }
-    requires short { All (λ source. length source.text ≤ most_input_bytes) sources.now }
+    requires short { AreShort sources.now }
     ensures { Replies K.written K.faults sink.old sink.new (SaysRun (run_of (machine_of model.now) sources.now inputs.now choices steps)) result }
 {
     let mut words = Words::of(choices);

@@ -1,5 +1,5 @@
 //! The file of a scenario.
-ghost use Rattle.std.specs.Prelude.{◌≡◌, ◌≤◌, ◌<◌, ◌^◌, [], IfErr, Ok, length};
+ghost use Rattle.std.specs.Prelude.{◌≡◌, ◌+◌, ◌≤◌, ◌<◌, ◌^◌, [], IfErr, Ok, length};
 ghost use Rattle.asm_io.specs.Outside.{Told, Rose};
 ghost use Rattle.asm_lex.specs.Cut.{cut};
 ghost use Rattle.asm_unit.specs.Loading.{Follows, OnRead, AddsFiles, Judges};
@@ -27,6 +27,7 @@ pub fn read_scenario<S: Shelf>(
     ensures told { Told (S.files shelf.old) (λ files. Follows (scenario_in files name.now) sources.new result) }
     ensures failed { IfErr result (λ e. OnRead e (Rose (S.faults shelf.old) (S.faults shelf.new))) }
     ensures added { AddsFiles spec.most_input_bytes sources.old sources.new }
+    ensures one { length sources.new ≤ length sources.old + 1 }
     ensures files { S.files shelf.new ≡ S.files shelf.old }
     ensures later { S.faults shelf.old ≤ S.faults shelf.new }
 {

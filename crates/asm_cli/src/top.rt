@@ -1,9 +1,9 @@
 //! The top call.
-ghost use Rattle.std.specs.Prelude.{◌≡◌, ◌≢◌, ◌≤◌, ◌↔◌};
+ghost use Rattle.std.specs.Prelude.{◌≡◌, ◌≢◌, ◌≤◌, ◌↔◌, codes};
 ghost use Rattle.asm_io.specs.Outside.{Told, Rose};
 ghost use Rattle.asm_cli.specs.Exit.{OnCode, OnFault};
 ghost use Rattle.asm_cli.specs.Words.{IsBadWords, seen};
-ghost use Rattle.asm_cli.specs.Answer.{answer, says_task, OneAnswer, Prints, PrintsPart, HasCause, HasFailed, HasFileFault, IsDone, IsStopped};
+ghost use Rattle.asm_cli.specs.Answer.{answer, says_task, OneAnswer, Prints, PrintsPart, HasCause, HasFailed, HasFileFault, IsDone, IsStopped, Says};
 
 use crate::check::check_model;
 use crate::command::{Task, asked};
@@ -27,6 +27,8 @@ pub fn asmeta<S: Shelf, K: Sink>(alloc: Global, words: &[Name], shelf: &mut S, s
     ensures read_fault { result ≡ Exit.ReadFault → Rose (S.faults shelf.old) (S.faults shelf.new) }
     ensures write_fault { result ≡ Exit.WriteFault → Rose (K.faults sink.old) (K.faults sink.new) }
     ensures bad_words { OnCode result (λ code. (code ≡ 2) ↔ IsBadWords words.now) }
+    ensures bad_line { IsBadWords words.now → OnCode result (Prints (K.written sink.old) (K.written sink.new) (Says (codes "asmeta: bad arguments") 2)) }
+    ensures few_codes { OnCode result (λ code. code ≤ 4) }
     ensures file_fault { Told (S.files shelf.old) (λ files. OnCode result (λ code. (code ≡ 3) ↔ HasFileFault words.now files)) }
     ensures stopped { Told (S.files shelf.old) (λ files. OnCode result (λ code. (code ≡ 4) ↔ IsStopped words.now files)) }
     ensures failed { Told (S.files shelf.old) (λ files. OnCode result (λ code. (code ≡ 1) ↔ HasFailed words.now files)) }
@@ -54,6 +56,8 @@ fn command<S: Shelf, K: Sink>(alloc: Global, words: &[Name], shelf: &mut S, sink
     ensures read_fault { result ≡ Exit.ReadFault → Rose (S.faults shelf.old) (S.faults shelf.new) }
     ensures write_fault { result ≡ Exit.WriteFault → Rose (K.faults sink.old) (K.faults sink.new) }
     ensures bad_words { OnCode result (λ code. (code ≡ 2) ↔ IsBadWords words.now) }
+    ensures bad_line { IsBadWords words.now → OnCode result (Prints (K.written sink.old) (K.written sink.new) (Says (codes "asmeta: bad arguments") 2)) }
+    ensures few_codes { OnCode result (λ code. code ≤ 4) }
     ensures files { S.files shelf.new ≡ S.files shelf.old }
     ensures shelf_later { S.faults shelf.old ≤ S.faults shelf.new }
     ensures sink_later { K.faults sink.old ≤ K.faults sink.new }
@@ -70,6 +74,7 @@ fn serve<S: Shelf, K: Sink>(alloc: Global, task: Task<'_>, shelf: &mut S, sink: 
     ensures answer { Told (S.files shelf.old) (λ files. OnCode result (Prints (K.written sink.old) (K.written sink.new) (says_task (seen task.entry) files))) }
     ensures prefix { Told (S.files shelf.old) (λ files. OnFault result (PrintsPart (K.written sink.old) (K.written sink.new) (says_task (seen task.entry) files))) }
     ensures good_words { OnCode result (λ code. code ≢ 2) }
+    ensures few_codes { OnCode result (λ code. code ≤ 4) }
     ensures read_fault { result ≡ Exit.ReadFault → Rose (S.faults shelf.old) (S.faults shelf.new) }
     ensures write_fault { result ≡ Exit.WriteFault → Rose (K.faults sink.old) (K.faults sink.new) }
     ensures files { S.files shelf.new ≡ S.files shelf.old }

@@ -1,9 +1,8 @@
 -- How calls that print into a sink follow one another.
-use Rattle.std.proofs.Common.{◌≡◌, ◌≤◌, ℕ, List, [], ◌++◌, take, drop, Option, Some, None, Result, Ok, Err, OnOk, OnErr, refl, ap, sym, ◌∙◌, append_assoc, append-nil, arith}
+use Rattle.std.proofs.Common.{◌≡◌, ◌≤◌, ℕ, List, [], ◌++◌, take, Option, Some, None, Result, Ok, Err, refl, ap, sym, ◌∙◌, append_assoc, append-nil, arith}
 use Rattle.std.specs.Io.KnownBytes.{append_known}
 use Rattle.asm_io.specs.Outside.{Adds, AddsPart, Rose}
 use Rattle.asm_io.specs.Writes.{Writes, WritesFront}
-use Rattle.asm_source.specs.Appends.{IsPrefix}
 use Rattle.asm_source.proofs.Appending.{prefix_none, prefix_all, prefix_taken, prefix_front, prefix_back}
 
 -- a count that rose in a later part of a call

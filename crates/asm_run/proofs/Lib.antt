@@ -1,4 +1,5 @@
 pub mod Entering
+pub mod Reaching
 pub mod Runs
 pub mod Sharing
 pub mod Takes

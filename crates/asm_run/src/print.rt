@@ -3,7 +3,7 @@ ghost use Rattle.std.specs.Prelude.{◌≡◌, ◌≤◌, All, IfOk, codes, leng
 ghost use Rattle.asm_io.specs.Writes.{Writes};
 ghost use Rattle.asm_run.specs.declared.error.OutError.TheVariants.{Write};
 ghost use Rattle.asm_run.specs.Printed.{numbered_state};
-ghost use Rattle.asm_text.specs.Texts.{line, stop_line};
+ghost use Rattle.asm_text.specs.Texts.{AreShort, line, stop_line};
 
 use crate::error::OutError;
 use crate::session::Session;
@@ -46,7 +46,7 @@ pub fn print_stop<K: Sink>(
     stop: Stop,
     sink: &mut K,
 ) -> Result<(), OutError>
-    requires { All (λ source. length source.text ≤ 1048576) sources.now }
+    requires { AreShort sources.now }
     ensures { Writes K.written K.faults sink.old sink.new (stop_line signature.now sources.now stop) Write result }
 {
     let text = stop_text(alloc, signature, sources, stop)?;
@@ -61,7 +61,7 @@ fn stop_text(
     sources: &Sources,
     stop: Stop,
 ) -> Result<Text, AllocError>
-    requires { All (λ source. length source.text ≤ 1048576) sources.now }
+    requires { AreShort sources.now }
     ensures { IfOk result (λ text. text ≡ stop_line signature.now sources.now stop) }
 {
     let mut text = Text::new(alloc);

@@ -3,11 +3,13 @@ ghost use Rattle.std.specs.Prelude.{◌≡◌, ◌≤◌, ◌++◌, All, IfOk, d
 ghost use Rattle.asm_io.specs.Writes.{Writes};
 ghost use Rattle.asm_node.specs.Machine.{no_input};
 ghost use Rattle.asm_node.specs.Model.{machine_of};
-ghost use Rattle.asm_node.specs.Step.{IsInput, broken};
+ghost use Rattle.asm_node.specs.Step.{IsInput, broken, initial};
 ghost use Rattle.asm_node.specs.Words.{left};
 ghost use Rattle.asm_run.specs.declared.error.OutError.TheVariants.{Write};
 ghost use Rattle.asm_run.specs.Printed.{after, ended, first_input, numbered_state, run_from, run_of, stop_of, unless_broken};
+ghost use Rattle.asm_run.specs.Reached.{landed, reached_from, words_left};
 ghost use Rattle.asm_run.specs.Stepping.{Goes, step_from};
+ghost use Rattle.asm_text.specs.Texts.{AreShort};
 
 use crate::error::{OutError, StepError};
 use crate::print::{print_end, print_state, print_stop};
@@ -36,9 +38,11 @@ pub fn print_run<K: Sink>(
     sink: &mut K,
 ) -> Result<RunEnd, OutError>
     requires inputs { All (IsInput (machine_of model.now)) inputs.now }
-    requires short { All (λ source. length source.text ≤ 1048576) sources.now }
+    requires short { AreShort sources.now }
     ensures writes { Writes K.written K.faults sink.old sink.new (run_of (machine_of model.now) sources.now inputs.now (left words.old) steps).text Write result }
     ensures end { IfOk result (λ end. end ≡ (run_of (machine_of model.now) sources.now inputs.now (left words.old) steps).end) }
+    ensures words { IfOk result (λ _. left words.new ≡ words_left (machine_of model.now) (initial (machine_of model.now)) inputs.now (left words.old) steps) }
+    ensures same_words { words.new.0 ≡ words.old.0 }
 {
     match Session::new(alloc, model) {
         Ok(mut session) => print_run_from(alloc, &mut session, inputs, words, steps, sources, sink),
@@ -52,7 +56,7 @@ pub fn print_run<K: Sink>(
 }
 
 /// Prints the run of so many steps from the present state on, which has the number 0. Steps past the inputs are given
-/// nothing.
+/// nothing. The session then stands in the state that was reached, and after an error in one on the way there.
 pub fn print_run_from<K: Sink>(
     alloc: Global,
     session: &mut Session<'_>,
@@ -63,9 +67,12 @@ pub fn print_run_from<K: Sink>(
     sink: &mut K,
 ) -> Result<RunEnd, OutError>
     requires inputs { All (IsInput session.old.machine) inputs.now }
-    requires short { All (λ source. length source.text ≤ 1048576) sources.now }
+    requires short { AreShort sources.now }
     ensures writes { Writes K.written K.faults sink.old sink.new (run_from session.old.machine sources.now 0 session.old.state inputs.now (left words.old) steps).text Write result }
     ensures end { IfOk result (λ end. end ≡ (run_from session.old.machine sources.now 0 session.old.state inputs.now (left words.old) steps).end) }
+    ensures reached { IfOk result (λ _. (session.new.state, left words.new) ≡ reached_from session.old.machine session.old.state inputs.now (left words.old) steps) }
+    ensures machine { session.new.machine ≡ session.old.machine }
+    ensures same_words { words.new.0 ≡ words.old.0 }
 {
     let nothing = Input::new(alloc);
     'steps: for number in 0..steps {
@@ -100,10 +107,12 @@ fn print_step<K: Sink>(
     sink: &mut K,
 ) -> Result<Option<Stop>, OutError>
     requires input { IsInput session.old.machine input.now }
-    requires short { All (λ source. length source.text ≤ 1048576) sources.now }
+    requires short { AreShort sources.now }
     ensures writes { Writes K.written K.faults sink.old sink.new (numbered_state session.old.machine number session.old.state ++ stop_of session.old.machine sources.now (step_from session.old.machine session.old.state input.now (left words.old))) Write result }
     ensures goes { IfOk result (λ stop. Goes stop session.new.state (left words.new) (step_from session.old.machine session.old.state input.now (left words.old))) }
-    ensures machine { IfOk result (λ _. session.new.machine ≡ session.old.machine) }
+    ensures lands { IfOk result (λ _. (session.new.state, left words.new) ≡ landed (session.old.state, left words.old) (step_from session.old.machine session.old.state input.now (left words.old))) }
+    ensures machine { session.new.machine ≡ session.old.machine }
+    ensures same_words { words.new.0 ≡ words.old.0 }
 {
     print_state(alloc, session, number, sink)?;
     match go_on(session, input, words)? {
@@ -124,7 +133,9 @@ fn go_on(
 ) -> Result<Option<Stop>, AllocError>
     requires { IsInput session.old.machine input.now }
     ensures goes { IfOk result (λ stop. Goes stop session.new.state (left words.new) (step_from session.old.machine session.old.state input.now (left words.old))) }
-    ensures machine { IfOk result (λ _. session.new.machine ≡ session.old.machine) }
+    ensures lands { IfOk result (λ _. (session.new.state, left words.new) ≡ landed (session.old.state, left words.old) (step_from session.old.machine session.old.state input.now (left words.old))) }
+    ensures machine { session.new.machine ≡ session.old.machine }
+    ensures same_words { words.new.0 ≡ words.old.0 }
 {
     if let Some(number) = session.stopped() {
         return Ok(Some(Stop::Invariant(number)));
@@ -147,7 +158,7 @@ fn print_last<K: Sink>(
     sources: &Sources,
     sink: &mut K,
 ) -> Result<RunEnd, OutError>
-    requires { All (λ source. length source.text ≤ 1048576) sources.now }
+    requires { AreShort sources.now }
     ensures writes { Writes K.written K.faults sink.old sink.new (after (numbered_state session.now.machine number session.now.state) (unless_broken session.now.machine sources.now (broken session.now.machine session.now.state) ended)).text Write result }
     ensures end { IfOk result (λ end. end ≡ (unless_broken session.now.machine sources.now (broken session.now.machine session.now.state) ended).end) }
 {

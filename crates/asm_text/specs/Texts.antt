@@ -1,5 +1,5 @@
 -- What is printed of values, locations, states, places and stops.
-use Rattle.std.specs.Prelude.{ℕ, zero, suc, true, false, List, [], ◌∷◌, ◌++◌, map, length, Option, Some, None, slice_get, if◌then◌else◌, codes}
+use Rattle.std.specs.Prelude.{◌<◌, ◌^◌, All, ℕ, zero, suc, true, false, List, [], ◌∷◌, ◌++◌, map, length, Option, Some, None, slice_get, if◌then◌else◌, codes}
 use Rattle.std.specs.Fmt.{decimal, signed_decimal}
 use Rattle.std.specs.List.{flat_map, range_with_len}
 use Rattle.std.specs.Option.{option_map, unwrap_or}
@@ -22,6 +22,10 @@ use Rattle.asm_sign.specs.declared.function.Function.{Function}
 -- a text that ends with a line feed
 abbrev pub line : List ℕ → List ℕ
 line text = text ++ 10 ∷ []
+
+-- each file has fewer bytes than its places may count
+abbrev pub AreShort : List Source → Type 0
+AreShort sources = All (λ (source : Source). length source.text < 2 ^ 31) sources
 
 -- ---- values
 

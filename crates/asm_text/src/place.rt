@@ -1,5 +1,5 @@
 //! The texts of places.
-ghost use Rattle.std.specs.Prelude.{◌≡◌, ◌++◌, ◌<◌, ◌≤◌, All, codes, length, slice_get};
+ghost use Rattle.std.specs.Prelude.{◌≡◌, ◌++◌, ◌<◌, ◌^◌, codes, length, slice_get};
 ghost use Rattle.std.specs.Fmt.{decimal};
 ghost use Rattle.asm_source.specs.Appends.{Appends};
 ghost use Rattle.asm_source.specs.Spots.{spot_at, text_of};
@@ -11,7 +11,7 @@ use std::alloc::AllocError;
 /// Appends a place as the file's name, the line and the column, both from 1, the column in bytes. A place past the end
 /// of its file is told as the end.
 pub fn print_place(sources: &Sources, place: Place, out: &mut Text) -> Result<(), AllocError>
-    requires { All (λ source. length source.text ≤ 1048576) sources.now }
+    requires { spec.AreShort sources.now }
     ensures { Appends out.old out.new (spec.place_text sources.now place) result }
 {
     print_spot(file_name(sources, place.file), spot(sources, place), out)
@@ -47,7 +47,7 @@ fn file_name(sources: &Sources, file: u32) -> &str
 
 /// The line and the column of a place, or of the end of its text where it is past that.
 fn spot(sources: &Sources, place: Place) -> Spot
-    requires { All (λ source. length source.text ≤ 1048576) sources.now }
+    requires { spec.AreShort sources.now }
     ensures { result ≡ spot_at (text_of sources.now place.file) place.at }
 {
     if place.file as usize >= sources.len() {
@@ -62,9 +62,9 @@ fn spot(sources: &Sources, place: Place) -> Spot
 
 /// The length of the text of a file.
 fn text_len(sources: &Sources, file: u32) -> u32
-    requires short { All (λ source. length source.text ≤ 1048576) sources.now }
+    requires short { spec.AreShort sources.now }
     requires listed { file < length sources.now }
-    ensures within { result ≤ 1048576 }
+    ensures within { result < 2 ^ 31 }
     ensures value { result ≡ length (text_of sources.now file) }
 {
     sources.slice()[file as usize].text.len() as u32

@@ -1,5 +1,5 @@
 //! The lines of stops.
-ghost use Rattle.std.specs.Prelude.{◌≤◌, ◌++◌, All, codes, length};
+ghost use Rattle.std.specs.Prelude.{◌++◌, codes};
 ghost use Rattle.std.specs.Fmt.{decimal};
 ghost use Rattle.asm_source.specs.Appends.{Appends};
 ghost use Rattle.asm_text.specs.Texts as spec;
@@ -20,7 +20,7 @@ pub fn print_stop(
     stop: &Stop,
     out: &mut Text,
 ) -> Result<(), AllocError>
-    requires { All (λ source. length source.text ≤ 1048576) sources.now }
+    requires { spec.AreShort sources.now }
     ensures { Appends out.old out.new (spec.stop_line signature.now sources.now stop.now) result }
 {
     append_str(out, "stop: ")?;
@@ -35,7 +35,7 @@ fn print_reason(
     stop: &Stop,
     out: &mut Text,
 ) -> Result<(), AllocError>
-    requires { All (λ source. length source.text ≤ 1048576) sources.now }
+    requires { spec.AreShort sources.now }
     ensures { Appends out.old out.new (spec.stop_text signature.now sources.now stop.now) result }
 {
     match stop {
@@ -72,7 +72,7 @@ fn print_placed(
     place: Place,
     out: &mut Text,
 ) -> Result<(), AllocError>
-    requires { All (λ source. length source.text ≤ 1048576) sources.now }
+    requires { spec.AreShort sources.now }
     ensures { Appends out.old out.new (words.now ++ spec.place_text sources.now place) result }
 {
     append_str(out, words)?;
@@ -111,7 +111,7 @@ fn print_bad_value(
     value: &Value,
     out: &mut Text,
 ) -> Result<(), AllocError>
-    requires { All (λ source. length source.text ≤ 1048576) sources.now }
+    requires { spec.AreShort sources.now }
     ensures { Appends out.old out.new (codes "bad value " ++ spec.value_text signature.now value.now ++ codes " for " ++ spec.location_text signature.now slot ++ codes " at " ++ spec.place_text sources.now place) result }
 {
     append_str(out, "bad value ")?;

@@ -72,13 +72,13 @@ judged_read file text (Err Memory) P j = tt
 -- ---- a text's fault is in its file
 
 abbrev pub InFile : ℕ → LoadError → Type 0
-InFile file (Absent name) = Unit {0}
-InFile file (TooLong name) = Unit {0}
-InFile file (Read name) = Unit {0}
+InFile file (Absent name) = ⊥
+InFile file (TooLong name) = ⊥
+InFile file (Read name) = ⊥
 InFile file (Lex place e) = place.file ≡ file
 InFile file (Parse place e) = place.file ≡ file
-InFile file (ImportCycle name) = Unit {0}
-InFile file (TooManyFiles name) = Unit {0}
+InFile file (ImportCycle name) = ⊥
+InFile file (TooManyFiles name) = ⊥
 InFile file Memory = Unit {0}
 
 lex_in_file : (file : ℕ) (e : LexError) → InFile file (lex_fault file e)

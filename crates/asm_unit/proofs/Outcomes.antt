@@ -1,5 +1,5 @@
 -- What comes of reading files, step by step.
-use Rattle.std.proofs.Common.{◌≡◌, ◌∙◌, ℕ, zero, suc, ◌+◌, ◌-◌, ◌<◌, ◌≤◌, Bool, true, false, if◌then◌else◌, nat_lt, nat_le, List, [], ◌∷◌, ◌++◌, length, drop, get_or, drop-cons, add-one, Option, Some, None, Result, Ok, Err, refl, ap, sym, subst, append_assoc, arith}
+use Rattle.std.proofs.Common.{◌≡◌, ◌∙◌, ℕ, zero, suc, ◌+◌, ◌-◌, ◌<◌, ◌≤◌, Bool, true, false, if◌then◌else◌, nat_lt, nat_le, List, [], ◌∷◌, ◌++◌, length, drop, slice_get, get_or, drop-cons, add-one, Option, Some, None, Result, Ok, Err, refl, ap, sym, subst, append_assoc, arith}
 use Rattle.std.proofs.lemmas.List.{append-nil}
 use Rattle.std.proofs.lemmas.Bool.Decides.{nat_tests}
 use Rattle.std.specs.FinMap.{get}
@@ -12,7 +12,7 @@ use Rattle.asm_unit.specs.declared.error.LoadError.{LoadError}
 use Rattle.asm_unit.specs.declared.error.LoadError.TheVariants.{Absent, TooLong, Read, Lex, Parse, ImportCycle, TooManyFiles, Memory}
 use Rattle.asm_unit.specs.Import.{import_name, reads_no_file}
 use Rattle.asm_unit.specs.Spelled.{tree_of}
-use Rattle.asm_unit.specs.Loading.{Outcome, ended, refused, onward, and_then, held_as, Visit, imports_by, unit_by, met, place_of, visit_by, opened_by, new_file, most_bytes, most_files, IsFront, Judges, ReadsText, Fails, Follows, OnRead, is_full}
+use Rattle.asm_unit.specs.Loading.{Outcome, ended, refused, onward, and_then, held_as, Visit, imports_by, unit_by, met, place_of, visit_by, opened_by, new_file, most_bytes, most_files, IsFront, asked_by, of_end, Judges, ReadsText, Fails, Follows, OnRead, is_full}
 
 -- ---- fronts
 
@@ -88,10 +88,51 @@ module _ (files : Files) (first : ℕ) where
 
 -- ---- how calls follow what is defined
 
+-- the file after the last
+get_past : (xs : List Source) → slice_get xs (length xs) ≡ None
+get_past [] = refl
+get_past (x ∷ xs) = get_past xs
+
+get_next : (xs : List Source) (x : Source) → slice_get (xs ++ x ∷ []) (length xs) ≡ Some x
+get_next [] x = refl
+get_next (y ∷ xs) x = get_next xs x
+
+get_within : (xs ys : List Source) (k : ℕ) (x : Source) → slice_get xs k ≡ Some x → slice_get (xs ++ ys) k ≡ Some x
+get_within [] ys k x is = absurd (cc is)
+get_within (y ∷ xs) ys zero x is = is
+get_within (y ∷ xs) ys (suc k) x is = get_within xs ys k x is
+
+-- what is asked for next is so also where more follows
+still_asked : {A B : Type 0} (sources : List Source) (end : Result A LoadError) (next : List Source → A → Outcome B) (now : List Source) (name : List ℕ) → ((read : List Source) (value : A) → IsFront read (next read value).sources)
+    → asked_by end (slice_get sources (length now)) ≡ Some name → asked_by (onward sources end next).end (slice_get (onward sources end next).sources (length now)) ≡ Some name
+still_asked sources (Err e) next now name grows is = is
+still_asked sources (Ok value) next now name grows is = by (slice_get sources (length now)) refl is
+  where
+    by : (o : Option Source) → slice_get sources (length now) ≡ o → asked_by (Ok value) o ≡ Some name → asked_by (next sources value).end (slice_get (next sources value).sources (length now)) ≡ Some name
+    by None at is = absurd (cc is)
+    by (Some s) at is =
+        ap (λ (l : List Source). asked_by (next sources value).end (slice_get l (length now))) (grows sources value).whole_is
+        ∙ ap (asked_by (next sources value).end) (get_within sources (grows sources value).rest (length now) s at) ∙ is
+
+-- one file is asked for by its name
+held_asked : {A : Type 0} (of : ℕ → List ℕ → Result A LoadError) (limit : ℕ) (name : List ℕ) (sources : List Source) (held : Option (List ℕ)) → asked_by (held_as of limit name sources held).end (slice_get (held_as of limit name sources held).sources (length sources)) ≡ Some name
+held_asked {A} of limit name sources None = ap (asked_by {A = A} (Err (Absent name))) (get_past sources)
+held_asked {A} of limit name sources (Some text) = by (nat_lt limit (length text))
+  where
+    file : Source
+    file = record { name = name; text = text }
+
+    both : Bool → Outcome A
+    both b = if b then refused sources (TooLong name) else record { sources = sources ++ file ∷ []; end = of (length sources) text }
+
+    by : (b : Bool) → asked_by {A = A} (both b).end (slice_get (both b).sources (length sources)) ≡ Some name
+    by true = ap (asked_by {A = A} (Err (TooLong name))) (get_past sources)
+    by false = ap (asked_by {A = A} (of (length sources) text)) (get_next sources file)
+
 pub then_fails : {A B : Type 0} (o : Outcome A) (next : List Source → A → Outcome B) (now : List Source) (e : LoadError) → ((sources : List Source) (value : A) → IsFront sources (next sources value).sources) → Fails o now e → Fails (and_then o next) now e
 then_fails o next now (Absent name) grows is = ap (λ x. and_then x next) is
 then_fails o next now (TooLong name) grows is = ap (λ x. and_then x next) is
-then_fails o next now (Read name) grows is = front_then now o.sources (and_then o next).sources is (then_grows o next grows)
+then_fails o next now (Read name) grows is = record { front = front_then now o.sources (and_then o next).sources is.front (then_grows o next grows); asked = still_asked o.sources o.end next now name grows is.asked }
 then_fails o next now (Lex place e) grows is = ap (λ x. and_then x next) is
 then_fails o next now (Parse place e) grows is = ap (λ x. and_then x next) is
 then_fails o next now (ImportCycle name) grows is = ap (λ x. and_then x next) is
@@ -112,7 +153,7 @@ pub text_fails : {A : Type 0} (of : ℕ → List ℕ → Result A LoadError) (li
 text_fails of limit name sources held (Absent n) is = rw is.1 (ap (λ (x : List ℕ). refused sources (Absent x)) (sym is.0))
 text_fails of limit name sources held (TooLong n) is =
     rw is.1.1 (rw (over limit (length is.1.0) is.1.2) (ap (λ (x : List ℕ). refused sources (TooLong x)) (sym is.0)))
-text_fails of limit name sources held (Read n) is = held_grows of limit name sources held
+text_fails of limit name sources held (Read n) is = record { front = held_grows of limit name sources held; asked = held_asked of limit name sources held ∙ ap Some (sym is) }
 text_fails of limit name sources held (Lex place e) is = absurd is
 text_fails of limit name sources held (Parse place e) is = absurd is
 text_fails of limit name sources held (ImportCycle n) is = absurd is
@@ -130,7 +171,7 @@ module _ {A : Type 0} (of : ℕ → List ℕ → Result A LoadError) (limit : �
   judged (Ok value) j = ap (λ (x : Result A LoadError). record { sources = with_file; end = x }) j
   judged (Err (Absent n)) j = ap (λ (x : Result A LoadError). record { sources = with_file; end = x }) (j (λ z. cc))
   judged (Err (TooLong n)) j = ap (λ (x : Result A LoadError). record { sources = with_file; end = x }) (j (λ z. cc))
-  judged (Err (Read n)) j = front_same with_file
+  judged (Err (Read n)) j = record { front = front_same with_file; asked = ap (λ (o : Option Source). asked_by (of (length sources) text) o) (get_past with_file) ∙ ap of_end (j (λ z. cc)) }
   judged (Err (Lex place e)) j = ap (λ (x : Result A LoadError). record { sources = with_file; end = x }) (j (λ z. cc))
   judged (Err (Parse place e)) j = ap (λ (x : Result A LoadError). record { sources = with_file; end = x }) (j (λ z. cc))
   judged (Err (ImportCycle n)) j = ap (λ (x : Result A LoadError). record { sources = with_file; end = x }) (j (λ z. cc))

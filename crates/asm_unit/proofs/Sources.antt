@@ -9,7 +9,7 @@ use Rattle.asm_unit.specs.declared.error.LoadError.{LoadError}
 use Rattle.asm_unit.specs.declared.error.LoadError.TheVariants.{Absent, TooLong, Read, Lex, Parse, ImportCycle, TooManyFiles, Memory}
 use Rattle.asm_unit.specs.Spelled.{tree_of}
 use Rattle.asm_unit.proofs.Faults.{InFile}
-use Rattle.asm_unit.specs.Loading.{AddsFiles, IsJudged, IsFault, IsOfName, AreUnits, Judges}
+use Rattle.asm_unit.specs.Loading.{AddsFiles, IsJudged, IsFault, IsOfFile, IsOfOne, AreUnits, Judges}
 
 no_item : {X : Type 0} (P : X → Type 0) → All P []
 no_item P = λ k d lt. absurd (omega arith)
@@ -68,15 +68,45 @@ units_and sources units now loaded are j is =
 pub no_units : (sources : List Source) (units : List LoadedUnit) → units ≡ [] → AreUnits sources units
 no_units sources units is = subst (λ (us : List LoadedUnit). AreUnits sources us) (sym is) (no_item (λ (l : LoadedUnit). IsJudged tree_of sources l.file (Ok l.unit)))
 
-pub name_fault : {A : Type 0} (of : ℕ → List ℕ → Result A LoadError) (sources : List Source) (e : LoadError) → IsOfName e → IsFault of sources e
-name_fault of sources (Absent name) is = tt
-name_fault of sources (TooLong name) is = tt
-name_fault of sources (Read name) is = tt
-name_fault of sources (Lex place e) is = absurd is
-name_fault of sources (Parse place e) is = absurd is
-name_fault of sources (ImportCycle name) is = tt
-name_fault of sources (TooManyFiles name) is = tt
-name_fault of sources Memory is = tt
+pub name_fault : {A : Type 0} (of : ℕ → List ℕ → Result A LoadError) (sources : List Source) (name : List ℕ) (e : LoadError) → IsOfFile name e → IsFault of sources e
+name_fault of sources name (Absent n) is = tt
+name_fault of sources name (TooLong n) is = tt
+name_fault of sources name (Read n) is = tt
+name_fault of sources name (Lex place e) is = absurd is
+name_fault of sources name (Parse place e) is = absurd is
+name_fault of sources name (ImportCycle n) is = absurd is
+name_fault of sources name (TooManyFiles n) is = absurd is
+name_fault of sources name Memory is = tt
+
+-- a file that isn't read
+pub one_unread : (name : List ℕ) (e : LoadError) → IsOfFile name e → IsOfOne name e
+one_unread name (Absent n) is = is
+one_unread name (TooLong n) is = is
+one_unread name (Read n) is = is
+one_unread name (Lex place e) is = tt
+one_unread name (Parse place e) is = tt
+one_unread name (ImportCycle n) is = is
+one_unread name (TooManyFiles n) is = is
+one_unread name Memory is = tt
+
+-- by an equal name
+pub one_renamed : (name full : List ℕ) (e : LoadError) → name ≡ full → IsOfFile name e → IsOfOne full e
+one_renamed name full e same is = subst (λ (n : List ℕ). IsOfOne n e) same (one_unread name e is)
+
+pub one_by_name : {A : Type 0} (name full : List ℕ) (r : Result A LoadError) → name ≡ full → IfErr r (IsOfOne name) → IfErr r (IsOfOne full)
+one_by_name name full r same is = subst (λ (n : List ℕ). IfErr r (IsOfOne n)) same is
+
+-- a file whose text is at fault
+pub one_at_fault : {A : Type 0} (of : ℕ → List ℕ → Result A LoadError) (name : List ℕ) (file : ℕ) (text : List ℕ) → ((e : LoadError) → of file text ≡ Err e → InFile file e) → (r : Result A LoadError) → Judges r (of file text) → IfErr r (IsOfOne name)
+one_at_fault of name file text inside (Ok value) j = tt
+one_at_fault of name file text inside (Err (Absent n)) j = absurd (inside (Absent n) (j (λ z. cc)))
+one_at_fault of name file text inside (Err (TooLong n)) j = absurd (inside (TooLong n) (j (λ z. cc)))
+one_at_fault of name file text inside (Err (Read n)) j = absurd (inside (Read n) (j (λ z. cc)))
+one_at_fault of name file text inside (Err (Lex place e)) j = tt
+one_at_fault of name file text inside (Err (Parse place e)) j = tt
+one_at_fault of name file text inside (Err (ImportCycle n)) j = absurd (inside (ImportCycle n) (j (λ z. cc)))
+one_at_fault of name file text inside (Err (TooManyFiles n)) j = absurd (inside (TooManyFiles n) (j (λ z. cc)))
+one_at_fault of name file text inside (Err Memory) j = tt
 
 -- ---- the file that was read last
 

@@ -1,5 +1,5 @@
 -- The files of a model: which are read, in which order, and the units that they are.
-use Rattle.std.specs.Prelude.{◌≡◌, ◌≢◌, ◌<◌, ◌≤◌, All, ℕ, zero, suc, ◌+◌, ◌-◌, Bool, true, ◌==◌, List, [], ◌∷◌, ◌++◌, length, drop, position, if◌then◌else◌, nat_lt, nat_le, bytes_eq, Option, Some, None, Result, Ok, Err}
+use Rattle.std.specs.Prelude.{◌≡◌, ◌≢◌, ◌<◌, ◌≤◌, All, ℕ, zero, suc, ◌+◌, ◌-◌, Bool, true, ◌==◌, List, [], ◌∷◌, ◌++◌, length, drop, slice_get, position, if◌then◌else◌, nat_lt, nat_le, bytes_eq, Option, Some, None, Result, Ok, Err}
 use Rattle.std.specs.List.{list_any}
 use Rattle.std.specs.FinMap.{get}
 use Rattle.asm_io.specs.Outside.{Files}
@@ -133,18 +133,39 @@ abbrev pub ReadsText : ℕ → List ℕ → Option (List ℕ) → Result (List �
 ReadsText limit name held (Ok text) = held ≡ Some text
 ReadsText limit name held (Err (Absent n)) = (n ≡ name) × (held ≡ None)
 ReadsText limit name held (Err (TooLong n)) = (n ≡ name) × ((text : List ℕ) × (held ≡ Some text) × (limit < length text))
-ReadsText limit name held (Err (Read n)) = Unit {0}
+ReadsText limit name held (Err (Read n)) = n ≡ name
 ReadsText limit name held (Err (Lex place e)) = ⊥
 ReadsText limit name held (Err (Parse place e)) = ⊥
 ReadsText limit name held (Err (ImportCycle n)) = ⊥
 ReadsText limit name held (Err (TooManyFiles n)) = ⊥
 ReadsText limit name held (Err Memory) = Unit {0}
 
+-- the name that is asked for after so many files were read: that of the next one, or of the one that isn't read
+abbrev pub of_end : {A : Type 0} → Result A LoadError → Option (List ℕ)
+of_end (Ok value) = None
+of_end (Err (Absent name)) = Some name
+of_end (Err (TooLong name)) = Some name
+of_end (Err (Read name)) = Some name
+of_end (Err (Lex place e)) = None
+of_end (Err (Parse place e)) = None
+of_end (Err (ImportCycle name)) = None
+of_end (Err (TooManyFiles name)) = None
+of_end (Err Memory) = None
+
+abbrev pub asked_by : {A : Type 0} → Result A LoadError → Option Source → Option (List ℕ)
+asked_by end (Some source) = Some source.name
+asked_by end None = of_end end
+
+-- a call that the shelf failed has read a front of the files, and names the one that it asked for next
+pub record IsFailed {A : Type 0} (o : Outcome A) (now : List Source) (name : List ℕ) : Type 0 where
+  pub front : IsFront now o.sources
+  pub asked : asked_by o.end (slice_get o.sources (length now)) ≡ Some name
+
 -- A call ends as is defined, with the files that are defined. Where memory ran out or the shelf failed, it has read a front of them.
 abbrev pub Fails : {A : Type 0} → Outcome A → List Source → LoadError → Type 0
 Fails o now (Absent name) = o ≡ refused now (Absent name)
 Fails o now (TooLong name) = o ≡ refused now (TooLong name)
-Fails o now (Read name) = IsFront now o.sources
+Fails o now (Read name) = IsFailed o now name
 Fails o now (Lex place e) = o ≡ refused now (Lex place e)
 Fails o now (Parse place e) = o ≡ refused now (Parse place e)
 Fails o now (ImportCycle name) = o ≡ refused now (ImportCycle name)
@@ -179,16 +200,27 @@ IsFault of sources (ImportCycle name) = Unit {0}
 IsFault of sources (TooManyFiles name) = Unit {0}
 IsFault of sources Memory = Unit {0}
 
--- the fault isn't of a text
-abbrev pub IsOfName : LoadError → Type 0
-IsOfName (Absent name) = Unit {0}
-IsOfName (TooLong name) = Unit {0}
-IsOfName (Read name) = Unit {0}
-IsOfName (Lex place e) = ⊥
-IsOfName (Parse place e) = ⊥
-IsOfName (ImportCycle name) = Unit {0}
-IsOfName (TooManyFiles name) = Unit {0}
-IsOfName Memory = Unit {0}
+-- a text wasn't read: the fault names its file, or memory is wanting
+abbrev pub IsOfFile : List ℕ → LoadError → Type 0
+IsOfFile name (Absent n) = n ≡ name
+IsOfFile name (TooLong n) = n ≡ name
+IsOfFile name (Read n) = n ≡ name
+IsOfFile name (Lex place e) = ⊥
+IsOfFile name (Parse place e) = ⊥
+IsOfFile name (ImportCycle n) = ⊥
+IsOfFile name (TooManyFiles n) = ⊥
+IsOfFile name Memory = Unit {0}
+
+-- what one file is refused for: it isn't read, or its text is at fault
+abbrev pub IsOfOne : List ℕ → LoadError → Type 0
+IsOfOne name (Absent n) = n ≡ name
+IsOfOne name (TooLong n) = n ≡ name
+IsOfOne name (Read n) = n ≡ name
+IsOfOne name (Lex place e) = Unit {0}
+IsOfOne name (Parse place e) = Unit {0}
+IsOfOne name (ImportCycle n) = ⊥
+IsOfOne name (TooManyFiles n) = ⊥
+IsOfOne name Memory = Unit {0}
 
 -- each unit is what the text of its file spells
 abbrev pub AreUnits : List Source → List LoadedUnit → Type 0

@@ -2,9 +2,10 @@
 ghost use Rattle.std.specs.Prelude.{◌≡◌, ◌==◌, ◌≤◌, ◌<◌, ◌^◌, ◌+◌, ◌-◌, [], length, IfOk, IfErr, Ok, Err};
 ghost use Rattle.std.specs.FinMap.{get};
 ghost use Rattle.asm_io.specs.Outside.{Told, Rose};
+ghost use Rattle.asm_unit.specs.Path.{normalised};
 ghost use Rattle.asm_unit.specs.Spelled as spelled;
 ghost use Rattle.asm_unit.specs.Loading as loading;
-ghost use Rattle.asm_unit.specs.Loading.{Follows, OnRead, AddsFiles, IsJudged, IsFault, AreUnits};
+ghost use Rattle.asm_unit.specs.Loading.{Follows, OnRead, AddsFiles, IsJudged, IsFault, IsOfOne, AreUnits};
 
 use crate::error::LoadError;
 use crate::import::{import_name, reads_no_file};
@@ -37,6 +38,7 @@ fn read_unit<S: Shelf>(
     ensures added { AddsFiles loading.most_bytes sources.old sources.new }
     ensures read { IfOk result (λ unit. IsJudged spelled.tree_of sources.new (length sources.old) (Ok unit)) }
     ensures fault { IfErr result (IsFault spelled.tree_of sources.new) }
+    ensures named { IfErr result (IsOfOne name.now) }
     ensures more { length sources.old ≤ length sources.new }
     ensures bounded { length sources.new ≤ length sources.old + 1 }
 {
@@ -64,6 +66,8 @@ pub fn load_unit<S: Shelf>(
     ensures added { AddsFiles loading.most_bytes sources.old sources.new }
     ensures read { IfOk result (λ unit. IsJudged spelled.tree_of sources.new (length sources.old) (Ok unit)) }
     ensures fault { IfErr result (IsFault spelled.tree_of sources.new) }
+    ensures named { IfErr result (IsOfOne (normalised name.now)) }
+    ensures one { length sources.new ≤ length sources.old + 1 }
 
     // Of the shelf.
     ensures files { S.files shelf.new ≡ S.files shelf.old }

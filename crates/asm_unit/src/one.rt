@@ -1,10 +1,11 @@
 //! One file, read and cut into tokens.
-ghost use Rattle.std.specs.Prelude.{◌≡◌, ◌≤◌, ◌<◌, ◌^◌, length, IfOk, IfErr, Ok};
+ghost use Rattle.std.specs.Prelude.{◌≡◌, ◌+◌, ◌≤◌, ◌<◌, ◌^◌, length, IfOk, IfErr, Ok};
 ghost use Rattle.std.specs.FinMap.{get};
 ghost use Rattle.asm_io.specs.Outside.{Told, Rose};
+ghost use Rattle.asm_unit.specs.Path.{normalised};
 ghost use Rattle.asm_unit.specs.Spelled as spelled;
 ghost use Rattle.asm_unit.specs.Loading as loading;
-ghost use Rattle.asm_unit.specs.Loading.{Follows, OnRead, ReadsText, AddsFiles, IsJudged, IsFault, IsOfName, Judges};
+ghost use Rattle.asm_unit.specs.Loading.{Follows, OnRead, ReadsText, AddsFiles, IsJudged, IsFault, IsOfFile, IsOfOne, Judges};
 
 use crate::error::LoadError;
 use crate::path::normalised;
@@ -32,6 +33,8 @@ pub fn load_one<S: Shelf>(
     ensures added { AddsFiles limit sources.old sources.new }
     ensures read { IfOk result (λ tokens. IsJudged spelled.tokens_of sources.new (length sources.old) (Ok tokens)) }
     ensures fault { IfErr result (IsFault spelled.tokens_of sources.new) }
+    ensures named { IfErr result (IsOfOne (normalised name.now)) }
+    ensures one { length sources.new ≤ length sources.old + 1 }
 
     // Of the shelf.
     ensures files { S.files shelf.new ≡ S.files shelf.old }
@@ -52,7 +55,7 @@ pub fn read_text<S: Shelf>(
     limit: u64,
 ) -> Result<Text, LoadError>
     ensures short { IfOk result (λ text. length text ≤ limit) }
-    ensures named { IfErr result IsOfName }
+    ensures named { IfErr result (IsOfFile name.now) }
     ensures told { Told (S.files shelf.old) (λ files. ReadsText limit name.now (get files name.now) result) }
     ensures failed { IfErr result (λ e. OnRead e (Rose (S.faults shelf.old) (S.faults shelf.new))) }
     ensures files { S.files shelf.new ≡ S.files shelf.old }

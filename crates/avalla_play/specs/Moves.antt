@@ -27,31 +27,37 @@ pub record Point : Type 0 where
   pub words : List ℕ
   pub checks : ℕ
 
+-- how a play ends, and the choice words that are left then
+pub record Ended : Type 0 where
+  pub end : Played
+  pub words : List ℕ
+
 -- what is printed on the way, and the point that is reached or how the play ends there
 pub record Move : Type 0 where
   pub text : List ℕ
-  pub to : Result Point Played
+  pub to : Result Point Ended
 
 abbrev pub stays : Point → Move
 stays p = record { text = []; to = Ok p }
 
-abbrev pub ends : List ℕ → Played → Move
-ends text end = record { text = text; to = Err end }
+abbrev pub ends : List ℕ → Played → List ℕ → Move
+ends text end words = record { text = text; to = Err (record { end = end; words = words }) }
 
 -- text before a move
 abbrev pub after : List ℕ → Move → Move
 after text m = record { text = text ++ m.text; to = m.to }
 
-abbrev pub onward : Result Point Played → (Point → Move) → Move
+abbrev pub onward : Result Point Ended → (Point → Move) → Move
 onward (Ok p) more = more p
-onward (Err end) more = record { text = []; to = Err end }
+onward (Err ended) more = record { text = []; to = Err ended }
 
 -- one move, then another from the point that it reaches; the end of a play ends both
 abbrev pub then_move : Move → (Point → Move) → Move
 then_move m more = after m.text (onward m.to more)
 
-abbrev pub stops : Machine → List Source → Stop → Move
-stops m sources e = ends (stop_line m.signature sources e) (Stopped e)
+-- a stop ends the play and takes no word
+abbrev pub stops : Machine → List Source → Stop → List ℕ → Move
+stops m sources e words = ends (stop_line m.signature sources e) (Stopped e) words
 
 -- ---- steps
 
@@ -61,7 +67,7 @@ kept v i = finite.retain_keys i (λ l. not (has_kind is_shared (function_at v l)
 
 -- a false invariant ends the play
 abbrev pub unless_broken : Machine → List Source → Option ℕ → Point → Move
-unless_broken m sources (Some n) p = stops m sources (stop.Invariant n)
+unless_broken m sources (Some n) p = stops m sources (stop.Invariant n) p.words
 unless_broken m sources None p = stays p
 
 -- the point in the next state
@@ -71,7 +77,7 @@ point_after m p q = record { number = p.number + 1; state = q.0; input = kept m.
 -- the state to which a step leads is printed, also where an invariant is false in it; a step that stops leads nowhere
 abbrev pub moved : Machine → List Source → Point → Result (State × List ℕ) Stop → Move
 moved m sources p (Ok q) = after (numbered_state m (p.number + 1) q.0) (unless_broken m sources (broken m q.0) (point_after m p q))
-moved m sources p (Err e) = stops m sources e
+moved m sources p (Err e) = stops m sources e p.words
 
 -- a step of a rule under the pending input
 abbrev pub step : Machine → List Source → Rule → Point → Move
@@ -84,21 +90,24 @@ abbrev pub worth : Machine → Tree → Point → Outcome Value
 worth m t p = val (record { machine = m; state = p.state; input = p.input }) nowhere t
 
 -- goes on with whether the condition is true, which `undef` isn't; where it needs an input that isn't set the play stops
-abbrev pub judged : Machine → List Source → Outcome Value → (Truth → Move) → Move
-judged m sources (Gives v) more = more (is_true v)
-judged m sources (Needs l) more = stops m sources (stop.Input l)
+abbrev pub judged : Machine → List Source → List ℕ → Outcome Value → (Truth → Move) → Move
+judged m sources words (Gives v) more = more (is_true v)
+judged m sources words (Needs l) more = stops m sources (stop.Input l) words
 
 -- ---- commands
 
 -- all steps that the budget allows are taken
-abbrev pub spent : ℕ → Move
-spent budget = ends (line (codes "stop: budget " ++ (decimal budget ++ codes " used up"))) Budget
+abbrev pub spent_line : ℕ → List ℕ
+spent_line budget = line (codes "stop: budget " ++ (decimal budget ++ codes " used up"))
+
+abbrev pub spent : ℕ → List ℕ → Move
+spent budget words = ends (spent_line budget) Budget words
 
 -- tests the condition, and takes a step and tests again while it isn't true, at most so many times
 abbrev pub steps_until : Machine → List Source → ℕ → Tree → ℕ → Point → Move
-steps_until m sources budget t zero p = judged m sources (worth m t p) (λ holds. if holds then stays p else spent budget)
+steps_until m sources budget t zero p = judged m sources p.words (worth m t p) (λ holds. if holds then stays p else spent budget p.words)
 steps_until m sources budget t (suc left) p =
-    judged m sources (worth m t p) (λ holds. if holds then stays p else then_move (step m sources m.main p) (steps_until m sources budget t left))
+    judged m sources p.words (worth m t p) (λ holds. if holds then stays p else then_move (step m sources m.main p) (steps_until m sources budget t left))
 
 -- the line of a check
 abbrev pub check_line : ℕ → List ℕ → List ℕ
@@ -108,7 +117,7 @@ check_line number verdict = line (codes "check " ++ (decimal number ++ verdict))
 abbrev pub checked : Point → Truth → Move
 checked p true =
     record { text = check_line (p.checks + 1) (codes " passed"); to = Ok (record { number = p.number; state = p.state; input = p.input; words = p.words; checks = p.checks + 1 }) }
-checked p false = ends (check_line (p.checks + 1) (codes " failed") ++ line (codes "failed")) (CheckFailed (p.checks + 1))
+checked p false = ends (check_line (p.checks + 1) (codes " failed") ++ line (codes "failed")) (CheckFailed (p.checks + 1)) p.words
 
 -- the pending input gives a slot a value, in place of an earlier one
 abbrev pub with_setting : Point → ℕ → Value → Point
@@ -119,7 +128,7 @@ abbrev pub acted : Machine → List Source → ℕ → Act → Point → Move
 acted m sources budget (Sets l v) p = stays (with_setting p l v)
 acted m sources budget Steps p = step m sources m.main p
 acted m sources budget (StepsUntil t) p = steps_until m sources budget t budget p
-acted m sources budget (Checks t) p = judged m sources (worth m t p) (checked p)
+acted m sources budget (Checks t) p = judged m sources p.words (worth m t p) (checked p)
 acted m sources budget (Executes r) p = step m sources r p
 
 -- commands one after the other

@@ -9,17 +9,18 @@ use Rattle.asm_text.specs.Texts.{line, stop_line}
 use Rattle.avalla_play.specs.declared.playing.Played.{Played}
 use Rattle.avalla_play.specs.declared.playing.Played.TheVariants.{Passed, Stopped}
 use Rattle.avalla_command.specs.Acts.{Act}
-use Rattle.avalla_play.specs.Moves.{Point, Move, after, then_move, unless_broken, all_acted}
+use Rattle.avalla_play.specs.Moves.{Point, Ended, Move, after, then_move, unless_broken, all_acted}
 
--- a text, and how the play ends that it tells of
+-- a text, how the play ends that it tells of, and the choice words that are left then
 pub record Printed : Type 0 where
   pub text : List ℕ
   pub end : Played
+  pub words : List ℕ
 
 -- where no command is left, the play has passed
-abbrev pub passed_unless : List ℕ → Result Point Played → Printed
-passed_unless text (Ok p) = record { text = text ++ line (codes "passed"); end = Passed }
-passed_unless text (Err end) = record { text = text; end = end }
+abbrev pub passed_unless : List ℕ → Result Point Ended → Printed
+passed_unless text (Ok p) = record { text = text ++ line (codes "passed"); end = Passed; words = p.words }
+passed_unless text (Err ended) = record { text = text; end = ended.end; words = ended.words }
 
 abbrev pub finished : Move → Printed
 finished m = passed_unless m.text m.to
@@ -34,10 +35,10 @@ from_start m sources budget acts p =
     after (numbered_state m 0 p.state) (then_move (unless_broken m sources (broken m p.state) p) (all_acted m sources budget acts))
 
 -- where an initial value is bad no state is printed
-abbrev pub begun : Machine → List Source → Result State Stop → (State → Printed) → Printed
-begun m sources (Ok s) more = more s
-begun m sources (Err e) more = record { text = stop_line m.signature sources e; end = Stopped e }
+abbrev pub begun : Machine → List Source → List ℕ → Result State Stop → (State → Printed) → Printed
+begun m sources words (Ok s) more = more s
+begun m sources words (Err e) more = record { text = stop_line m.signature sources e; end = Stopped e; words = words }
 
 -- the play of these commands from the initial state, with this budget for each `step until`
 abbrev pub play_of : Machine → List Source → List Act → List ℕ → ℕ → Printed
-play_of m sources acts words budget = begun m sources (initial m) (λ s. finished (from_start m sources budget acts (first_point s words)))
+play_of m sources acts words budget = begun m sources words (initial m) (λ s. finished (from_start m sources budget acts (first_point s words)))

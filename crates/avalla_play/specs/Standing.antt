@@ -14,7 +14,7 @@ use Rattle.avalla_play.specs.declared.judging.Verdict.TheVariants.{Met, Unmet, L
 use Rattle.avalla_play.specs.declared.playing.Played.{Played}
 use Rattle.avalla_play.specs.declared.playing.Played.TheVariants.{Stopped}
 use Rattle.avalla_play.specs.declared.stage.Stage.{Stage}
-use Rattle.avalla_play.specs.Moves.{Point, Move, after, ends, judged, stays, step, then_move, worth}
+use Rattle.avalla_play.specs.Moves.{Point, Ended, Move, after, ends, judged, stays, step, then_move, worth}
 
 -- the point at which a stage stands, with the words that are left
 abbrev pub point_of : Stage → List ℕ → Point
@@ -27,14 +27,14 @@ pub record IsReady (m : Machine) (s : Stage) : Type 0 where
   pub input : IsInput m s.input
 
 -- a move reaches the stage, and the play goes on from it
-pub record Reaches (m : Machine) (s : Stage) (words : List ℕ) (to : Result Point Played) : Type 0 where
+pub record Reaches (m : Machine) (s : Stage) (words : List ℕ) (to : Result Point Ended) : Type 0 where
   pub leads : to ≡ Ok (point_of s words)
   pub ready : IsReady m s
 
--- how the play ends after a move; where it doesn't, the stage that is reached
-abbrev pub Lands : Option Played → Machine → Stage → List ℕ → Result Point Played → Type 0
+-- how the play ends after a move, and the words that are left then; where it doesn't end, the stage that is reached
+abbrev pub Lands : Option Played → Machine → Stage → List ℕ → Result Point Ended → Type 0
 Lands None m s words to = Reaches m s words to
-Lands (Some end) m s words to = to ≡ Err end
+Lands (Some end) m s words to = to ≡ Err (record { end = end; words = words })
 
 -- ---- false invariants
 
@@ -68,17 +68,17 @@ said (Lacks l) = Needs l
 
 -- tests a condition, and takes a step and does more where it isn't true
 abbrev pub tested : Machine → List Source → Tree → Point → (Point → Move) → Move
-tested m sources t p more = judged m sources (worth m t p) (λ holds. if holds then stays p else then_move (step m sources m.main p) more)
+tested m sources t p more = judged m sources p.words (worth m t p) (λ holds. if holds then stays p else then_move (step m sources m.main p) more)
 
 -- one test, and the step after it
 abbrev pub turn_of : Machine → List Source → Tree → Point → Move
-turn_of m sources t p = judged m sources (worth m t p) (λ holds. if holds then stays p else step m sources m.main p)
+turn_of m sources t p = judged m sources p.words (worth m t p) (λ holds. if holds then stays p else step m sources m.main p)
 
 -- what is left to do after a turn: more, or nothing, since the condition is true or the play has ended
 abbrev pub rest_of : Option (Option Played) → Stage → List ℕ → (Point → Move) → Move
 rest_of None s words more = more (point_of s words)
 rest_of (Some None) s words more = stays (point_of s words)
-rest_of (Some (Some end)) s words more = ends [] end
+rest_of (Some (Some end)) s words more = ends [] end words
 
 -- the stage after a turn, where the play hasn't ended
 abbrev pub IsReadyAfter : Option (Option Played) → Machine → Stage → Type 0

@@ -4,6 +4,7 @@ ghost use Rattle.asm_io.specs.Writes.{Writes};
 ghost use Rattle.asm_node.specs.Model.{machine_of};
 ghost use Rattle.asm_node.specs.Words.{left};
 ghost use Rattle.asm_run.specs.declared.error.OutError.TheVariants.{Write};
+ghost use Rattle.asm_text.specs.Texts.{AreShort};
 ghost use Rattle.avalla_command.specs.Acts.{IsAct, act_of, acts_of};
 ghost use Rattle.avalla_play.specs.Moves.{acted, all_acted};
 ghost use Rattle.avalla_play.specs.Standing.{IsReady, Lands, point_of};
@@ -32,9 +33,10 @@ pub fn act_all<K: Sink>(
     requires acts { All (IsAct (machine_of context.now.model.now)) (acts_of commands.now) }
     requires few { length commands.now ≤ 100000 }
     requires none { stage.old.checks ≡ 0 }
-    requires short { All (λ source. length source.text ≤ 1048576) context.now.sources.now }
+    requires short { AreShort context.now.sources.now }
     ensures writes { Writes K.written K.faults sink.old sink.new (all_acted (machine_of context.now.model.now) context.now.sources.now context.now.budget (acts_of commands.now) (point_of stage.old (left words.old))).text Write result }
     ensures lands { IfOk result (λ end. Lands end (machine_of context.now.model.now) stage.new (left words.new) (all_acted (machine_of context.now.model.now) context.now.sources.now context.now.budget (acts_of commands.now) (point_of stage.old (left words.old))).to) }
+    ensures same_words { words.new.0 ≡ words.old.0 }
 {
     'commands: for command in commands {
         if let Some(end) = act(context, stage, command, words, sink)? {
@@ -55,9 +57,10 @@ fn act<K: Sink>(
     requires ready { IsReady (machine_of context.now.model.now) stage.old }
     requires act { IsAct (machine_of context.now.model.now) (act_of command.now) }
     requires few { stage.old.checks < 100000 }
-    requires short { All (λ source. length source.text ≤ 1048576) context.now.sources.now }
+    requires short { AreShort context.now.sources.now }
     ensures writes { Writes K.written K.faults sink.old sink.new (acted (machine_of context.now.model.now) context.now.sources.now context.now.budget (act_of command.now) (point_of stage.old (left words.old))).text Write result }
     ensures lands { IfOk result (λ end. Lands end (machine_of context.now.model.now) stage.new (left words.new) (acted (machine_of context.now.model.now) context.now.sources.now context.now.budget (act_of command.now) (point_of stage.old (left words.old))).to) }
+    ensures same_words { words.new.0 ≡ words.old.0 }
     ensures checks { IfOk result (λ _. stage.new.checks ≤ stage.old.checks + 1) }
 {
     match command {

@@ -5,7 +5,7 @@ ghost use Rattle.asm_node.specs.Model.{machine_of};
 ghost use Rattle.asm_node.specs.Tree.{plain};
 ghost use Rattle.asm_node.specs.WellFormed.{IsCondition};
 ghost use Rattle.asm_run.specs.declared.error.OutError.TheVariants.{Write};
-ghost use Rattle.asm_text.specs.Texts.{line};
+ghost use Rattle.asm_text.specs.Texts.{AreShort, line};
 ghost use Rattle.avalla_command.specs.Acts.{Checks};
 ghost use Rattle.avalla_play.specs.Moves.{acted, check_line};
 ghost use Rattle.avalla_play.specs.Standing.{IsReady, Lands, point_of};
@@ -32,7 +32,7 @@ pub fn check<K: Sink>(
     requires ready { IsReady (machine_of context.now.model.now) stage.old }
     requires condition { IsCondition (machine_of context.now.model.now) (plain condition.now.value) }
     requires few { stage.old.checks < 100000 }
-    requires short { All (λ source. length source.text ≤ 1048576) context.now.sources.now }
+    requires short { AreShort context.now.sources.now }
     ensures writes { (words : List ℕ) → Writes K.written K.faults sink.old sink.new (acted (machine_of context.now.model.now) context.now.sources.now context.now.budget (Checks (plain condition.now.value)) (point_of stage.old words)).text Write result }
     ensures lands { IfOk result (λ end. (words : List ℕ) → Lands end (machine_of context.now.model.now) stage.new words (acted (machine_of context.now.model.now) context.now.sources.now context.now.budget (Checks (plain condition.now.value)) (point_of stage.old words)).to) }
     ensures checks { IfOk result (λ _. stage.new.checks ≤ stage.old.checks + 1) }

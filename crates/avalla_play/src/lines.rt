@@ -2,7 +2,7 @@
 ghost use Rattle.std.specs.Prelude.{◌≡◌, ◌++◌, IfOk, codes};
 ghost use Rattle.std.specs.Fmt.{decimal};
 ghost use Rattle.asm_text.specs.Texts.{line};
-ghost use Rattle.avalla_play.specs.Moves.{check_line, spent};
+ghost use Rattle.avalla_play.specs.Moves.{check_line, spent_line};
 
 use asm_source::{Text, append_number, append_str};
 use std::alloc::{AllocError, Global};
@@ -34,7 +34,7 @@ pub fn failed_lines(alloc: Global, number: u32) -> Result<Text, AllocError>
 
 /// The line of a `step until` that took all its steps.
 pub fn budget_line(alloc: Global, budget: u64) -> Result<Text, AllocError>
-    ensures { IfOk result (λ text. text ≡ (spent budget).text) }
+    ensures { IfOk result (λ text. text ≡ spent_line budget) }
 {
     let mut text = Text::new(alloc);
     append_str(&mut text, "stop: budget ")?;

@@ -4,7 +4,7 @@ ghost use Rattle.asm_io.specs.Writes.{Writes};
 ghost use Rattle.asm_node.specs.Model.{machine_of};
 ghost use Rattle.asm_node.specs.Words.{left};
 ghost use Rattle.asm_run.specs.declared.error.OutError.TheVariants.{Write};
-ghost use Rattle.asm_text.specs.Texts.{line};
+ghost use Rattle.asm_text.specs.Texts.{AreShort, line};
 ghost use Rattle.avalla_command.specs.Acts.{IsAct, acts_of};
 ghost use Rattle.avalla_play.specs.Moves.{all_acted};
 ghost use Rattle.avalla_play.specs.Printed.{finished, first_point, from_start, play_of};
@@ -47,9 +47,11 @@ pub fn play<K: Sink>(
 ) -> Result<Played, OutError>
     requires acts { All (IsAct (machine_of model.now)) (acts_of play.now) }
     requires few { length play.now ≤ 100000 }
-    requires short { All (λ source. length source.text ≤ 1048576) sources.now }
+    requires short { AreShort sources.now }
     ensures writes { Writes K.written K.faults sink.old sink.new (play_of (machine_of model.now) sources.now (acts_of play.now) (left words.old) budget).text Write result }
     ensures end { IfOk result (λ end. end ≡ (play_of (machine_of model.now) sources.now (acts_of play.now) (left words.old) budget).end) }
+    ensures words { IfOk result (λ _. left words.new ≡ (play_of (machine_of model.now) sources.now (acts_of play.now) (left words.old) budget).words) }
+    ensures same_words { words.new.0 ≡ words.old.0 }
 {
     let context = Context {
         alloc,
@@ -79,9 +81,11 @@ fn play_from<K: Sink>(
     requires machine { session.machine ≡ machine_of context.now.model.now }
     requires acts { All (IsAct (machine_of context.now.model.now)) (acts_of commands.now) }
     requires few { length commands.now ≤ 100000 }
-    requires short { All (λ source. length source.text ≤ 1048576) context.now.sources.now }
+    requires short { AreShort context.now.sources.now }
     ensures writes { Writes K.written K.faults sink.old sink.new (finished (from_start (machine_of context.now.model.now) context.now.sources.now context.now.budget (acts_of commands.now) (first_point session.entry.state (left words.old)))).text Write result }
     ensures end { IfOk result (λ end. end ≡ (finished (from_start (machine_of context.now.model.now) context.now.sources.now context.now.budget (acts_of commands.now) (first_point session.entry.state (left words.old)))).end) }
+    ensures words { IfOk result (λ _. left words.new ≡ (finished (from_start (machine_of context.now.model.now) context.now.sources.now context.now.budget (acts_of commands.now) (first_point session.entry.state (left words.old)))).words) }
+    ensures same_words { words.new.0 ≡ words.old.0 }
 {
     let mut stage = Stage {
         session,
@@ -107,9 +111,11 @@ fn play_on<K: Sink>(
     requires acts { All (IsAct (machine_of context.now.model.now)) (acts_of commands.now) }
     requires few { length commands.now ≤ 100000 }
     requires none { stage.old.checks ≡ 0 }
-    requires short { All (λ source. length source.text ≤ 1048576) context.now.sources.now }
+    requires short { AreShort context.now.sources.now }
     ensures writes { Writes K.written K.faults sink.old sink.new (finished (all_acted (machine_of context.now.model.now) context.now.sources.now context.now.budget (acts_of commands.now) (point_of stage.old (left words.old)))).text Write result }
     ensures end { IfOk result (λ end. end ≡ (finished (all_acted (machine_of context.now.model.now) context.now.sources.now context.now.budget (acts_of commands.now) (point_of stage.old (left words.old)))).end) }
+    ensures words { IfOk result (λ _. left words.new ≡ (finished (all_acted (machine_of context.now.model.now) context.now.sources.now context.now.budget (acts_of commands.now) (point_of stage.old (left words.old)))).words) }
+    ensures same_words { words.new.0 ≡ words.old.0 }
 {
     match act_all(context, stage, commands, words, sink)? {
         Some(end) => Ok(end),

@@ -8,8 +8,10 @@ ghost use Rattle.asm_node.specs.Step.{IsInput, next};
 ghost use Rattle.asm_node.specs.WellFormed.{IsRule};
 ghost use Rattle.asm_node.specs.Words.{left};
 ghost use Rattle.asm_run.specs.declared.error.OutError.TheVariants.{Write};
+ghost use Rattle.asm_run.specs.Reached.{landed};
 ghost use Rattle.asm_run.specs.Session.{Answers, advanced};
 ghost use Rattle.asm_run.specs.Stepping.{Goes};
+ghost use Rattle.asm_text.specs.Texts.{AreShort};
 ghost use Rattle.avalla_play.specs.Moves.{step};
 ghost use Rattle.avalla_play.specs.Standing.{IsReady, Lands, point_of};
 
@@ -34,10 +36,11 @@ pub fn make_step<K: Sink>(
 ) -> Result<Option<Played>, OutError>
     requires ready { IsReady (machine_of context.now.model.now) stage.old }
     requires rule { MatchOption (option_copied rule) ⊤ (λ r. IsRule (machine_of context.now.model.now) (plain_rule r.value)) }
-    requires short { All (λ source. length source.text ≤ 1048576) context.now.sources.now }
+    requires short { AreShort context.now.sources.now }
     ensures writes { Writes K.written K.faults sink.old sink.new (step (machine_of context.now.model.now) context.now.sources.now (unwrap_or (option_map (λ r. plain_rule r.value) (option_copied rule.entry)) (machine_of context.now.model.now).main) (point_of stage.old (left words.old))).text Write result }
     ensures lands { IfOk result (λ end. Lands end (machine_of context.now.model.now) stage.new (left words.new) (step (machine_of context.now.model.now) context.now.sources.now (unwrap_or (option_map (λ r. plain_rule r.value) (option_copied rule.entry)) (machine_of context.now.model.now).main) (point_of stage.old (left words.old))).to) }
     ensures checks { IfOk result (λ _. stage.new.checks ≡ stage.old.checks) }
+    ensures same_words { words.new.0 ≡ words.old.0 }
 {
     match go_on(&mut stage.session, rule, &stage.input, words)? {
         Some(stop) => stop_by(context, stop, sink),
@@ -59,7 +62,9 @@ fn go_on(
     requires rule { MatchOption (option_copied rule) ⊤ (λ r. IsRule session.old.machine (plain_rule r.value)) }
     requires input { IsInput session.old.machine input.now }
     ensures goes { IfOk result (λ stop. Goes stop session.new.state (left words.new) (next session.old.machine session.old.state input.now (left words.old) (unwrap_or (option_map (λ r. plain_rule r.value) (option_copied rule.entry)) session.old.machine.main))) }
+    ensures lands { IfOk result (λ _. (session.new.state, left words.new) ≡ landed (session.old.state, left words.old) (next session.old.machine session.old.state input.now (left words.old) (unwrap_or (option_map (λ r. plain_rule r.value) (option_copied rule.entry)) session.old.machine.main))) }
     ensures machine { IfOk result (λ _. session.new.machine ≡ session.old.machine) }
+    ensures same_words { words.new.0 ≡ words.old.0 }
 {
     match advance(session, rule, input, words) {
         Ok(()) => Ok(None),

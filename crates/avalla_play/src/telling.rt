@@ -5,7 +5,7 @@ ghost use Rattle.asm_node.specs.Model.{machine_of};
 ghost use Rattle.asm_node.specs.Step.{broken};
 ghost use Rattle.asm_run.specs.declared.error.OutError.TheVariants.{Write};
 ghost use Rattle.asm_run.specs.Printed.{numbered_state};
-ghost use Rattle.avalla_play.specs.Moves.{stops};
+ghost use Rattle.asm_text.specs.Texts.{AreShort, stop_line};
 ghost use Rattle.avalla_play.specs.Standing.{end_at, told};
 
 use crate::context::Context;
@@ -21,8 +21,8 @@ pub fn stop_by<K: Sink>(
     stop: Stop,
     sink: &mut K,
 ) -> Result<Option<Played>, OutError>
-    requires { All (λ source. length source.text ≤ 1048576) context.now.sources.now }
-    ensures writes { Writes K.written K.faults sink.old sink.new (stops (machine_of context.now.model.now) context.now.sources.now stop).text Write result }
+    requires { AreShort context.now.sources.now }
+    ensures writes { Writes K.written K.faults sink.old sink.new (stop_line (machine_of context.now.model.now).signature context.now.sources.now stop) Write result }
     ensures end { IfOk result (λ end. end ≡ Some (Played.Stopped stop)) }
 {
     print_stop(
@@ -42,7 +42,7 @@ pub fn tell_state<K: Sink>(
     sink: &mut K,
 ) -> Result<Option<Played>, OutError>
     requires machine { stage.now.session.machine ≡ machine_of context.now.model.now }
-    requires short { All (λ source. length source.text ≤ 1048576) context.now.sources.now }
+    requires short { AreShort context.now.sources.now }
     ensures writes { Writes K.written K.faults sink.old sink.new (numbered_state (machine_of context.now.model.now) stage.now.number stage.now.session.state ++ told (machine_of context.now.model.now) context.now.sources.now (broken (machine_of context.now.model.now) stage.now.session.state)) Write result }
     ensures end { IfOk result (λ end. end ≡ end_at (broken (machine_of context.now.model.now) stage.now.session.state)) }
     ensures stopped { IfOk result (λ _. stage.now.session.stopped ≡ broken (machine_of context.now.model.now) stage.now.session.state) }

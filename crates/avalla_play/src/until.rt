@@ -6,7 +6,8 @@ ghost use Rattle.asm_node.specs.Tree.{plain};
 ghost use Rattle.asm_node.specs.WellFormed.{IsCondition};
 ghost use Rattle.asm_node.specs.Words.{left};
 ghost use Rattle.asm_run.specs.declared.error.OutError.TheVariants.{Write};
-ghost use Rattle.avalla_play.specs.Moves.{spent, steps_until};
+ghost use Rattle.asm_text.specs.Texts.{AreShort};
+ghost use Rattle.avalla_play.specs.Moves.{spent_line, steps_until};
 ghost use Rattle.avalla_play.specs.Standing.{IsReady, Lands, Turns, point_of, turn_of};
 
 use crate::context::Context;
@@ -31,10 +32,11 @@ pub fn step_until<K: Sink>(
 ) -> Result<Option<Played>, OutError>
     requires ready { IsReady (machine_of context.now.model.now) stage.old }
     requires condition { IsCondition (machine_of context.now.model.now) (plain condition.now.value) }
-    requires short { All (λ source. length source.text ≤ 1048576) context.now.sources.now }
+    requires short { AreShort context.now.sources.now }
     ensures writes { Writes K.written K.faults sink.old sink.new (steps_until (machine_of context.now.model.now) context.now.sources.now context.now.budget (plain condition.now.value) context.now.budget (point_of stage.old (left words.old))).text Write result }
     ensures lands { IfOk result (λ end. Lands end (machine_of context.now.model.now) stage.new (left words.new) (steps_until (machine_of context.now.model.now) context.now.sources.now context.now.budget (plain condition.now.value) context.now.budget (point_of stage.old (left words.old))).to) }
     ensures checks { IfOk result (λ _. stage.new.checks ≡ stage.old.checks) }
+    ensures same_words { words.new.0 ≡ words.old.0 }
 {
     let budget = context.budget;
     'turns: for _ in 0..budget {
@@ -56,10 +58,11 @@ fn take_turn<K: Sink>(
 ) -> Result<Option<Option<Played>>, OutError>
     requires ready { IsReady (machine_of context.now.model.now) stage.old }
     requires condition { IsCondition (machine_of context.now.model.now) (plain condition.now.value) }
-    requires short { All (λ source. length source.text ≤ 1048576) context.now.sources.now }
+    requires short { AreShort context.now.sources.now }
     ensures writes { Writes K.written K.faults sink.old sink.new (turn_of (machine_of context.now.model.now) context.now.sources.now (plain condition.now.value) (point_of stage.old (left words.old))).text Write result }
     ensures turns { IfOk result (λ answer. Turns answer (machine_of context.now.model.now) stage.new (left words.new) context.now.sources.now (plain condition.now.value) (point_of stage.old (left words.old))) }
     ensures checks { IfOk result (λ _. stage.new.checks ≡ stage.old.checks) }
+    ensures same_words { words.new.0 ≡ words.old.0 }
 {
     match judge(context, stage, condition)? {
         Verdict::Met => Ok(Some(None)),
@@ -80,7 +83,7 @@ fn test_last<K: Sink>(
 ) -> Result<Option<Played>, OutError>
     requires ready { IsReady (machine_of context.now.model.now) stage.now }
     requires condition { IsCondition (machine_of context.now.model.now) (plain condition.now.value) }
-    requires short { All (λ source. length source.text ≤ 1048576) context.now.sources.now }
+    requires short { AreShort context.now.sources.now }
     ensures writes { (words : List ℕ) → Writes K.written K.faults sink.old sink.new (steps_until (machine_of context.now.model.now) context.now.sources.now context.now.budget (plain condition.now.value) 0 (point_of stage.now words)).text Write result }
     ensures lands { IfOk result (λ end. (words : List ℕ) → Lands end (machine_of context.now.model.now) stage.now words (steps_until (machine_of context.now.model.now) context.now.sources.now context.now.budget (plain condition.now.value) 0 (point_of stage.now words)).to) }
 {
@@ -96,7 +99,7 @@ fn test_last<K: Sink>(
 
 /// Prints that all steps were taken that the budget allows.
 fn tell_budget<K: Sink>(context: &Context<'_>, sink: &mut K) -> Result<(), OutError>
-    ensures { Writes K.written K.faults sink.old sink.new (spent context.now.budget).text Write result }
+    ensures { Writes K.written K.faults sink.old sink.new (spent_line context.now.budget) Write result }
 {
     let text = budget_line(context.alloc, context.budget)?;
     write_text(sink, text.slice())?;

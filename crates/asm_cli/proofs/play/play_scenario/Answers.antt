@@ -1,11 +1,15 @@
+use Rattle.std.proofs.Common.{ap, arith, length}
 use Rattle.asm_cli.specs.Plays.{says_scenario, scenario_in}
 use Rattle.asm_cli.specs.Words.{play_plan_seen}
 use Rattle.asm_cli.proofs.Serving.{serves_then, refuses_served}
 use Rattle.asm_cli.proofs.Playing.{short_first}
 use Rattle.asm_cli.proofs.play.play_scenario.Goals as goal
 
-pub play_read-requires : goal.play_read-requires
-play_read-requires g c = short_first c.new-sources.result c.read_scenario.new.sources c.new-sources.ensures c.in-Ok.ensures.added
+pub play_read-requires-clause-few : goal.play_read-requires-clause-few
+play_read-requires-clause-few g c = (let none = ap length c.new-sources.ensures in let one = c.in-Ok.ensures.one in omega (arith, none, one))
+
+pub play_read-requires-clause-short : goal.play_read-requires-clause-short
+play_read-requires-clause-short g c = short_first c.new-sources.result c.read_scenario.new.sources c.new-sources.ensures c.in-Ok.ensures.added
 
 pub refuse_load-requires : goal.refuse_load-requires
 refuse_load-requires g c = record { short = short_first c.new-sources.result c.read_scenario.new.sources c.new-sources.ensures c.in-Err.ensures.added }

@@ -1,13 +1,16 @@
-use Rattle.std.proofs.Common.{◌≡◌, ◌∙◌, ◌-◌, ◌++◌, ap, sym, subst, drop, arith, refl}
+use Rattle.std.proofs.Common.{◌≡◌, ◌∙◌, ◌-◌, ◌++◌, ℕ, List, ap, sym, subst, drop, arith, refl}
 use Rattle.std.specs.Prelude.{All, Err}
 use Rattle.std.proofs.lemmas.Result.{err_from_is_err_and, IfOk-weaker}
 use Rattle.asm_io.proofs.Printing.{front_none}
+use Rattle.asm_node.specs.Machine.{State}
 use Rattle.asm_node.specs.Step.{IsInput, broken}
 use Rattle.asm_node.specs.Words.{left}
 use Rattle.asm_run.specs.declared.run.RunEnd.{RunEnd}
 use Rattle.asm_run.specs.Printed.{Printed, after, ended, first_input, go_on, numbered_state, run_from, stop_of, unless_broken}
+use Rattle.asm_run.specs.Reached.{landed, reached_from}
 use Rattle.asm_run.specs.Stepping.{step_from}
 use Rattle.asm_run.proofs.Runs.{first-is_input, goes-none, goes-some, last, later, later-is, others, run_from-cut, run_from-end, run_from-next, stopped, went_on, written_all}
+use Rattle.asm_run.proofs.Reaching.{goes-further, stops-there, whatever}
 use Rattle.asm_run.proofs.run.print_run_from.Goals as goal
 
 pub steps-init : goal.steps-init
@@ -17,6 +20,8 @@ steps-init g c =
     record {
       same_machine = refl;
       printed = rw all (front_none g.K.Sink.written g.K.Sink.faults c.args.sink.now (whole c.args.steps).text);
+      same_words = refl;
+      same_reached = ap (reached_from c.args.session.now.machine c.args.session.now.state c.args.inputs.now (left c.args.words.now)) all;
       same_end = ap (λ n. (whole n).end) all;
     }
 
@@ -74,8 +79,28 @@ steps-preserved g c =
     record {
       same_machine = c.in_ok-stop.ensures.machine ∙ c.steps.invariant.same_machine;
       printed = went_on g.K.Sink.written g.K.Sink.faults _ _ _ _ _ _ _ _ cut c.steps.invariant.printed c.in_ok-stop.ensures.writes;
+      same_words = c.in_ok-stop.ensures.same_words ∙ c.steps.invariant.same_words;
+      same_reached = sym (goes-further m new.machine c.steps.session.state new.state inputs (left c.steps.words) rest number c.args.steps step c.in_ok-stop.ensures.machine (omega arith) (ap (λ i. step_from m c.steps.session.state i (left c.steps.words)) (sym is)) leads) ∙ c.steps.invariant.same_reached;
       same_end = sym next ∙ c.steps.invariant.same_end;
     }
+
+pub returns-in-Some-clause-reached : goal.returns-in-Some-clause-reached
+returns-in-Some-clause-reached g c =
+    let m = c.steps.session.machine in
+    let is = c.input_at-input.ensures ∙ ap (λ xs. first_input (drop c.steps.number xs)) c.slice.ensures in
+    let step = step_from m c.steps.session.state c.input_at-input.result.now (left c.steps.words) in
+    let here : State × List ℕ = (c.steps.session.state, left c.steps.words) in
+    let stops : step ≡ Err c.in-Some.stop = goes-some c.in_ok-stop.stop c.in-Some.stop c.print_step.new.session.state (left c.print_step.new.words) step c.in-Some.is c.in_ok-stop.ensures.goes in
+    c.in_ok-stop.ensures.lands ∙ ap (landed here) stops
+    ∙ sym (stops-there m c.steps.session.state (drop c.steps.number c.args.inputs.now) (left c.steps.words) (c.args.steps - c.steps.number) c.in-Some.stop (omega arith) (ap (λ i. step_from m c.steps.session.state i (left c.steps.words)) (sym is) ∙ stops))
+    ∙ c.steps.invariant.same_reached
+
+pub returns-clause-reached : goal.returns-clause-reached
+returns-clause-reached g c =
+    let m = c.steps.session.machine in
+    let none : c.args.steps - c.steps.number ≡ 0 = omega arith in
+    let reached = sym (ap (reached_from m c.steps.session.state (drop c.steps.number c.args.inputs.now) (left c.steps.words)) none) ∙ c.steps.invariant.same_reached in
+    whatever c.print_last.result _ reached
 
 pub returns-clause-writes : goal.returns-clause-writes
 returns-clause-writes g c =

@@ -1,15 +1,13 @@
-use Rattle.std.proofs.Common.{◌≡◌, ◌∙◌, ◌++◌, ◌∷◌, [], ◌+◌, ◌-◌, ℕ, List, Ok, Err, drop, length, refl, sym, ap, subst, arith}
+use Rattle.std.proofs.Common.{◌∙◌, ◌-◌, ℕ, List, Ok, drop, length, refl, sym, ap, arith}
 use Rattle.std.proofs.lemmas.Result.{err_from_is_err_and}
-use Rattle.std.specs.FinMap.{get}
-use Rattle.asm_io.specs.Outside.{Files}
 use Rattle.asm_unit.specs.declared.error.LoadError.TheVariants.{Memory}
 use Rattle.asm_unit.specs.Loading.{Visit, visit_by, new_file, imports_by, ended, most_bytes}
 use Rattle.asm_unit.specs.Import.{import_name}
 use Rattle.asm_unit.specs.Spelled.{tree_of}
 use Rattle.asm_tree.specs.declared.unit.RawUnit.{RawUnit}
 use Rattle.asm_tree.specs.declared.unit.LoadedUnit.{LoadedUnit}
-use Rattle.asm_unit.proofs.Outcomes.{VisitGrows, imports_grow, visit_grows, new_file_grows, import_skipped, import_loaded, import_fails, fails_as, new_file_full, file_fails, imports_fail, all_loaded, memory_after, pushed}
-use Rattle.asm_unit.proofs.Sources.{adds_none, adds_then, units_stay, units_and, judged_stays}
+use Rattle.asm_unit.proofs.Outcomes.{imports_grow, visit_grows, new_file_grows, import_loaded, import_fails, fails_as, new_file_full, file_fails, imports_fail, all_loaded, memory_after, pushed}
+use Rattle.asm_unit.proofs.Sources.{adds_none, adds_then, units_and, judged_stays}
 use Rattle.asm_unit.proofs.load.+load.Goals as goal
 
 pub imports-returns-in_err-name-clause-told : goal.imports-returns-in_err-name-clause-told

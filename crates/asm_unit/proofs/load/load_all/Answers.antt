@@ -3,7 +3,6 @@ use Rattle.std.proofs.lemmas.Result.{err_from_is_err_and}
 use Rattle.asm_unit.specs.Path.{normalised}
 use Rattle.asm_unit.specs.Loading.{most_files}
 use Rattle.asm_unit.proofs.Outcomes.{new_file_grows, units_follow}
-use Rattle.asm_unit.proofs.Sources.{no_units}
 use Rattle.asm_unit.proofs.load.load_all.Goals as goal
 
 pub returns-in_err-name-clause-told : goal.returns-in_err-name-clause-told

@@ -5,7 +5,7 @@ use Rattle.asm_unit.specs.Path.{normalised}
 use Rattle.asm_unit.specs.Loading.{most_bytes}
 use Rattle.asm_unit.specs.Spelled.{tree_of}
 use Rattle.asm_unit.proofs.Outcomes.{held_grows, renamed}
-use Rattle.asm_unit.proofs.Sources.{adds_none}
+use Rattle.asm_unit.proofs.Sources.{adds_none, one_by_name}
 use Rattle.asm_unit.proofs.load.load_unit.Goals as goal
 
 pub returns-in_err-name-clause-told : goal.returns-in_err-name-clause-told
@@ -19,3 +19,6 @@ returns-in_err-name-clause-added g c = adds_none most_bytes c.args.sources.now c
 pub returns-clause-told : goal.returns-clause-told
 returns-clause-told g c = λ files told.
     renamed tree_of most_bytes files c.args.sources.now c.read_unit.new.sources c.in_ok-name.name (normalised c.args.name.now) c.read_unit.result c.in_ok-name.ensures (c.read_unit.ensures.told files told)
+
+pub returns-clause-named : goal.returns-clause-named
+returns-clause-named g c = one_by_name c.in_ok-name.name (normalised c.args.name.now) c.read_unit.result c.in_ok-name.ensures c.read_unit.ensures.named

@@ -1,11 +1,11 @@
-use Rattle.std.proofs.Common.{Err, length, refl}
+use Rattle.std.proofs.Common.{[], ◌∷◌, Err, length, length-append, refl, ap, arith}
 use Rattle.std.proofs.lemmas.Result.{err_from_is_err_and}
 use Rattle.std.specs.FinMap.{get}
 use Rattle.asm_unit.specs.Path.{normalised}
 use Rattle.asm_unit.specs.Spelled.{tokens_of}
 use Rattle.asm_unit.proofs.Outcomes.{held_grows, judges_same, memory_fails, renamed, text_fails, text_follows}
 use Rattle.asm_unit.proofs.Faults.{tokens_in_file}
-use Rattle.asm_unit.proofs.Sources.{adds_none, adds_one, last_read, last_fault, name_fault}
+use Rattle.asm_unit.proofs.Sources.{adds_none, adds_one, last_read, last_fault, name_fault, one_at_fault, one_renamed}
 use Rattle.asm_unit.proofs.one.load_one.Goals as goal
 
 pub returns-in_err-name-clause-told : goal.returns-in_err-name-clause-told
@@ -54,4 +54,19 @@ returns-clause-fault g c = last_fault tokens_of c.args.sources.now c.push.new.se
 pub returns-in_err-text-clause-fault : goal.returns-in_err-text-clause-fault
 returns-in_err-text-clause-fault g c =
     let p = err_from_is_err_and c.from_residual-in_err-text.result c.from_residual-in_err-text.ensures.1 in
-    rw (p.1, p.2) (name_fault tokens_of c.args.sources.now c.in_err-text.field-0.0 c.in_err-text.ensures.named)
+    rw (p.1, p.2) (name_fault tokens_of c.args.sources.now c.in_ok-name.name c.in_err-text.field-0.0 c.in_err-text.ensures.named)
+
+pub returns-in_err-text-clause-named : goal.returns-in_err-text-clause-named
+returns-in_err-text-clause-named g c =
+    let p = err_from_is_err_and c.from_residual-in_err-text.result c.from_residual-in_err-text.ensures.1 in
+    rw (p.1, p.2) (one_renamed c.in_ok-name.name (normalised c.args.name.now) c.in_err-text.field-0.0 c.in_ok-name.ensures c.in_err-text.ensures.named)
+
+pub returns-clause-named : goal.returns-clause-named
+returns-clause-named g c = one_at_fault tokens_of (normalised c.args.name.now) (length c.args.sources.now) c.in_ok-text.text (λ e h. tokens_in_file (length c.args.sources.now) c.in_ok-text.text e h) c.tokens_of-tokens.result
+    (judges_same tokens_of c.tokens_of-tokens.result c.len.result (length c.args.sources.now) c.slice.result.now c.in_ok-text.text c.len.ensures c.slice.ensures c.tokens_of-tokens.ensures)
+
+pub returns-clause-one : goal.returns-clause-one
+returns-clause-one g c = omega (arith, ap length c.in_ok-push.ensures.ok, length-append c.args.sources.now (record { name = c.in_ok-name.name; text = c.in_ok-text.text } ∷ []))
+
+pub returns-in_err-push-clause-one : goal.returns-in_err-push-clause-one
+returns-in_err-push-clause-one g c = omega (arith, ap length c.in_err-push.ensures.err)

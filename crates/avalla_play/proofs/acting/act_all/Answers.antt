@@ -18,6 +18,7 @@ commands-init g c = record {
   ready = c.requires.ready;
   printed = front_none g.K.Sink.written g.K.Sink.faults c.args.sink.now _;
   same_end = refl;
+  same_words = refl;
   few = omega (arith, c.requires.none);
 }
 
@@ -93,6 +94,7 @@ commands-preserved g c =
       ready = lands.ready;
       printed = went_on g.K.Sink.written g.K.Sink.faults _ _ _ _ _ _ _ _ cut c.commands.invariant.printed c.in_ok-end.ensures.writes;
       same_end = sym (ap (λ xs. (all_acted m sources budget xs q).to) acts ∙ ap (λ (z : Move). z.to) next) ∙ c.commands.invariant.same_end;
+      same_words = c.in_ok-end.ensures.same_words ∙ c.commands.invariant.same_words;
       few = omega (arith, c.in_ok-end.ensures.checks, c.commands.invariant.few);
     }
 

@@ -13,5 +13,6 @@ invariant-commands g l = record {
   ready : IsReady (machine_of l.context.model.now) l.stage;
   printed : WritesFront g.K.Sink.written g.K.Sink.faults l.fn.sink l.sink (all_acted (machine_of l.context.model.now) l.context.sources.now l.context.budget (acts_of l.commands) (point_of l.fn.stage (left l.fn.words))).text (all_acted (machine_of l.context.model.now) l.context.sources.now l.context.budget (drop l.command-index (acts_of l.commands)) (point_of l.stage (left l.words))).text;
   same_end : (all_acted (machine_of l.context.model.now) l.context.sources.now l.context.budget (drop l.command-index (acts_of l.commands)) (point_of l.stage (left l.words))).to ≡ (all_acted (machine_of l.context.model.now) l.context.sources.now l.context.budget (acts_of l.commands) (point_of l.fn.stage (left l.fn.words))).to;
+  same_words : l.words.0 ≡ l.fn.words.0;
   few : l.stage.checks ≤ l.command-index;
 }

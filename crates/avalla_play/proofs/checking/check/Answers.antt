@@ -25,7 +25,7 @@ returns-in_err-pass-in-Met-clause-writes g c = λ words.
     let m = machine_of c.args.context.now.model.now in
     let t = plain c.args.condition.now.value in
     let q = point_of c.args.stage.now words in
-    let is = judged-is m c.args.context.now.sources.now (worth m t q) (Gives true) (checked q) (c.in_ok-judge.ensures ∙ ap said c.in-Met.is) in
+    let is = judged-is m c.args.context.now.sources.now q.words (worth m t q) (Gives true) (checked q) (c.in_ok-judge.ensures ∙ ap said c.in-Met.is) in
     let p = err_from_is_err_and c.from_residual-in_err-pass-in-Met.result c.from_residual-in_err-pass-in-Met.ensures.1 in
     rw (p.1, p.2) (one-stopped g.K.Sink.written g.K.Sink.faults c.args.sink.now c.pass.new.sink _ _ _ (sym (ap (λ (z : Move). z.text) is)) c.in_err-pass-in-Met.ensures.writes)
 
@@ -34,7 +34,7 @@ returns-in_ok-pass-in-Met-clause-writes g c = λ words.
     let m = machine_of c.args.context.now.model.now in
     let t = plain c.args.condition.now.value in
     let q = point_of c.args.stage.now words in
-    let is = judged-is m c.args.context.now.sources.now (worth m t q) (Gives true) (checked q) (c.in_ok-judge.ensures ∙ ap said c.in-Met.is) in
+    let is = judged-is m c.args.context.now.sources.now q.words (worth m t q) (Gives true) (checked q) (c.in_ok-judge.ensures ∙ ap said c.in-Met.is) in
     one-written g.K.Sink.written g.K.Sink.faults c.args.sink.now c.pass.new.sink _ _ _ _ (ap (λ (z : Move). z.text) is) c.in_ok-pass-in-Met.ensures.writes
 
 pub returns-in_ok-pass-in-Met-clause-lands : goal.returns-in_ok-pass-in-Met-clause-lands
@@ -42,7 +42,7 @@ returns-in_ok-pass-in-Met-clause-lands g c = λ words.
     let m = machine_of c.args.context.now.model.now in
     let t = plain c.args.condition.now.value in
     let q = point_of c.args.stage.now words in
-    let is = judged-is m c.args.context.now.sources.now (worth m t q) (Gives true) (checked q) (c.in_ok-judge.ensures ∙ ap said c.in-Met.is) in
+    let is = judged-is m c.args.context.now.sources.now q.words (worth m t q) (Gives true) (checked q) (c.in_ok-judge.ensures ∙ ap said c.in-Met.is) in
     let counts = c.in_ok-pass-in-Met.ensures.counts in
     record {
       leads = ap (λ (z : Move). z.to) is ∙ sym (ap (λ (s : Stage). Ok (point_of s words)) counts);
@@ -59,7 +59,7 @@ returns-in_err-fail-in-Unmet-clause-writes g c = λ words.
     let m = machine_of c.args.context.now.model.now in
     let t = plain c.args.condition.now.value in
     let q = point_of c.args.stage.now words in
-    let is = judged-is m c.args.context.now.sources.now (worth m t q) (Gives false) (checked q) (c.in_ok-judge.ensures ∙ ap said c.in-Unmet.is) in
+    let is = judged-is m c.args.context.now.sources.now q.words (worth m t q) (Gives false) (checked q) (c.in_ok-judge.ensures ∙ ap said c.in-Unmet.is) in
     let p = err_from_is_err_and c.from_residual-in_err-fail-in-Unmet.result c.from_residual-in_err-fail-in-Unmet.ensures.1 in
     rw (p.1, p.2) (one-stopped g.K.Sink.written g.K.Sink.faults c.args.sink.now c.fail.new.sink _ _ _ (sym (ap (λ (z : Move). z.text) is)) c.in_err-fail-in-Unmet.ensures)
 
@@ -68,7 +68,7 @@ returns-in_ok-fail-in-Unmet-clause-writes g c = λ words.
     let m = machine_of c.args.context.now.model.now in
     let t = plain c.args.condition.now.value in
     let q = point_of c.args.stage.now words in
-    let is = judged-is m c.args.context.now.sources.now (worth m t q) (Gives false) (checked q) (c.in_ok-judge.ensures ∙ ap said c.in-Unmet.is) in
+    let is = judged-is m c.args.context.now.sources.now q.words (worth m t q) (Gives false) (checked q) (c.in_ok-judge.ensures ∙ ap said c.in-Unmet.is) in
     one-written g.K.Sink.written g.K.Sink.faults c.args.sink.now c.fail.new.sink _ _ _ _ (ap (λ (z : Move). z.text) is) c.in_ok-fail-in-Unmet.ensures
 
 pub returns-in_ok-fail-in-Unmet-clause-lands : goal.returns-in_ok-fail-in-Unmet-clause-lands
@@ -76,14 +76,14 @@ returns-in_ok-fail-in-Unmet-clause-lands g c = λ words.
     let m = machine_of c.args.context.now.model.now in
     let t = plain c.args.condition.now.value in
     let q = point_of c.args.stage.now words in
-    ap (λ (z : Move). z.to) (judged-is m c.args.context.now.sources.now (worth m t q) (Gives false) (checked q) (c.in_ok-judge.ensures ∙ ap said c.in-Unmet.is))
+    ap (λ (z : Move). z.to) (judged-is m c.args.context.now.sources.now q.words (worth m t q) (Gives false) (checked q) (c.in_ok-judge.ensures ∙ ap said c.in-Unmet.is))
 
 pub returns-in-Lacks-clause-writes : goal.returns-in-Lacks-clause-writes
 returns-in-Lacks-clause-writes g c = λ words.
     let m = machine_of c.args.context.now.model.now in
     let t = plain c.args.condition.now.value in
     let q = point_of c.args.stage.now words in
-    let is = judged-is m c.args.context.now.sources.now (worth m t q) (Needs c.in-Lacks.slot) (checked q) (c.in_ok-judge.ensures ∙ ap said c.in-Lacks.is) in
+    let is = judged-is m c.args.context.now.sources.now q.words (worth m t q) (Needs c.in-Lacks.slot) (checked q) (c.in_ok-judge.ensures ∙ ap said c.in-Lacks.is) in
     same-text g.K.Sink.written g.K.Sink.faults c.args.sink.now c.stop_by.new.sink _ _ c.stop_by.result (sym (ap (λ (z : Move). z.text) is)) c.stop_by.ensures.writes
 
 pub returns-in-Lacks-clause-lands : goal.returns-in-Lacks-clause-lands
@@ -95,7 +95,7 @@ returns-in-Lacks-clause-lands g c =
     let lacks = c.in_ok-judge.ensures ∙ ap said c.in-Lacks.is in
     from_ok c.stop_by.result (λ end. end ≡ Some (Stopped (Input c.in-Lacks.slot))) (λ end. (words : List ℕ) → Lands end m s words (acted m sources c.args.context.now.budget (Checks t) (point_of s words)).to)
     (λ end is words. subst (λ z. Lands z m s words (acted m sources c.args.context.now.budget (Checks t) (point_of s words)).to) (sym is)
-    (ap (λ (z : Move). z.to) (judged-is m sources (worth m t (point_of s words)) (Needs c.in-Lacks.slot) (checked (point_of s words)) lacks)))
+    (ap (λ (z : Move). z.to) (judged-is m sources words (worth m t (point_of s words)) (Needs c.in-Lacks.slot) (checked (point_of s words)) lacks)))
     c.stop_by.ensures.end
 
 pub returns-in-Lacks-clause-checks : goal.returns-in-Lacks-clause-checks

@@ -32,7 +32,7 @@ returns-in-Ok-clause-writes g c =
     let words = left c.args.words.now in
     let whole : List (Rc Command Global) → State → Printed = λ commands s. finished (from_start m sources c.args.budget (acts_of commands) (first_point s words)) in
     let same : whole c.slice.result.now c.in-Ok.session.state ≡ play_of m sources (acts_of c.args.play.now) words c.args.budget =
-    ap (λ commands. whole commands c.in-Ok.session.state) c.slice.ensures ∙ sym (ap (λ (o : Result State Stop). begun m sources o (whole c.args.play.now)) c.in-Ok.ensures.begins) in
+    ap (λ commands. whole commands c.in-Ok.session.state) c.slice.ensures ∙ sym (ap (λ (o : Result State Stop). begun m sources words o (whole c.args.play.now)) c.in-Ok.ensures.begins) in
     subst (λ (q : Printed). Writes g.K.Sink.written g.K.Sink.faults c.args.sink.now c.play_from.new.sink q.text Write c.play_from.result) same c.play_from.ensures.writes
 
 pub returns-in-Ok-clause-end : goal.returns-in-Ok-clause-end
@@ -42,8 +42,18 @@ returns-in-Ok-clause-end g c =
     let words = left c.args.words.now in
     let whole : List (Rc Command Global) → State → Printed = λ commands s. finished (from_start m sources c.args.budget (acts_of commands) (first_point s words)) in
     let same : whole c.slice.result.now c.in-Ok.session.state ≡ play_of m sources (acts_of c.args.play.now) words c.args.budget =
-    ap (λ commands. whole commands c.in-Ok.session.state) c.slice.ensures ∙ sym (ap (λ (o : Result State Stop). begun m sources o (whole c.args.play.now)) c.in-Ok.ensures.begins) in
+    ap (λ commands. whole commands c.in-Ok.session.state) c.slice.ensures ∙ sym (ap (λ (o : Result State Stop). begun m sources words o (whole c.args.play.now)) c.in-Ok.ensures.begins) in
     subst (λ (q : Printed). IfOk c.play_from.result (λ end. end ≡ q.end)) same c.play_from.ensures.end
+
+pub returns-in-Ok-clause-words : goal.returns-in-Ok-clause-words
+returns-in-Ok-clause-words g c =
+    let m = machine_of c.args.model.now in
+    let sources = c.args.sources.now in
+    let words = left c.args.words.now in
+    let whole : List (Rc Command Global) → State → Printed = λ commands s. finished (from_start m sources c.args.budget (acts_of commands) (first_point s words)) in
+    let same : whole c.slice.result.now c.in-Ok.session.state ≡ play_of m sources (acts_of c.args.play.now) words c.args.budget =
+    ap (λ commands. whole commands c.in-Ok.session.state) c.slice.ensures ∙ sym (ap (λ (o : Result State Stop). begun m sources words o (whole c.args.play.now)) c.in-Ok.ensures.begins) in
+    subst (λ (q : Printed). IfOk c.play_from.result (λ _. left c.play_from.new.words ≡ q.words)) same c.play_from.ensures.words
 
 pub returns-in_err-print_stop-in-Err-BadInitial-clause-writes : goal.returns-in_err-print_stop-in-Err-BadInitial-clause-writes
 returns-in_err-print_stop-in-Err-BadInitial-clause-writes g c =
@@ -52,7 +62,7 @@ returns-in_err-print_stop-in-Err-BadInitial-clause-writes g c =
     let words = left c.args.words.now in
     let stop : Stop = BadInitial c.in-Err-BadInitial.slot c.in-Err-BadInitial.value in
     let begins : initial m ≡ Err stop = subst (λ e. Prevents e (initial m)) c.in-Err-BadInitial.field-0-is c.in-Err-BadInitial.ensures.begins in
-    let same = ap (λ (o : Result State Stop). (begun m sources o (λ s. finished (from_start m sources c.args.budget (acts_of c.args.play.now) (first_point s words)))).text) begins ∙ ap (λ v. stop_line v sources stop) (sym c.signature.ensures)
+    let same = ap (λ (o : Result State Stop). (begun m sources words o (λ s. finished (from_start m sources c.args.budget (acts_of c.args.play.now) (first_point s words)))).text) begins ∙ ap (λ v. stop_line v sources stop) (sym c.signature.ensures)
     ∙ ap (stop_line c.signature.result.now sources) (sym (same-stop _ _ _ _ c.in-Err-BadInitial.slot-is c.in-Err-BadInitial.value-is)) in
     let p = err_from_is_err_and c.from_residual.result c.from_residual.ensures.1 in
     rw (p.1, p.2) (one-stopped g.K.Sink.written g.K.Sink.faults c.args.sink.now c.print_stop.new.sink _ _ _ (sym same) c.in_err-print_stop-in-Err-BadInitial.ensures)
@@ -64,7 +74,7 @@ returns-in_ok-print_stop-in-Err-BadInitial-clause-writes g c =
     let words = left c.args.words.now in
     let stop : Stop = BadInitial c.in-Err-BadInitial.slot c.in-Err-BadInitial.value in
     let begins : initial m ≡ Err stop = subst (λ e. Prevents e (initial m)) c.in-Err-BadInitial.field-0-is c.in-Err-BadInitial.ensures.begins in
-    let same = ap (λ (o : Result State Stop). (begun m sources o (λ s. finished (from_start m sources c.args.budget (acts_of c.args.play.now) (first_point s words)))).text) begins ∙ ap (λ v. stop_line v sources stop) (sym c.signature.ensures)
+    let same = ap (λ (o : Result State Stop). (begun m sources words o (λ s. finished (from_start m sources c.args.budget (acts_of c.args.play.now) (first_point s words)))).text) begins ∙ ap (λ v. stop_line v sources stop) (sym c.signature.ensures)
     ∙ ap (stop_line c.signature.result.now sources) (sym (same-stop _ _ _ _ c.in-Err-BadInitial.slot-is c.in-Err-BadInitial.value-is)) in
     one-written g.K.Sink.written g.K.Sink.faults c.args.sink.now c.print_stop.new.sink _ _ _ _ same c.in_ok-print_stop-in-Err-BadInitial.ensures
 
@@ -75,5 +85,14 @@ returns-in_ok-print_stop-in-Err-BadInitial-clause-end g c =
     let words = left c.args.words.now in
     let stop : Stop = BadInitial c.in-Err-BadInitial.slot c.in-Err-BadInitial.value in
     let begins : initial m ≡ Err stop = subst (λ e. Prevents e (initial m)) c.in-Err-BadInitial.field-0-is c.in-Err-BadInitial.ensures.begins in
-    sym (ap (λ (o : Result State Stop). (begun m sources o (λ s. finished (from_start m sources c.args.budget (acts_of c.args.play.now) (first_point s words)))).end) begins
+    sym (ap (λ (o : Result State Stop). (begun m sources words o (λ s. finished (from_start m sources c.args.budget (acts_of c.args.play.now) (first_point s words)))).end) begins
     ∙ ap Stopped (sym (same-stop _ _ _ _ c.in-Err-BadInitial.slot-is c.in-Err-BadInitial.value-is)))
+
+pub returns-in_ok-print_stop-in-Err-BadInitial-clause-words : goal.returns-in_ok-print_stop-in-Err-BadInitial-clause-words
+returns-in_ok-print_stop-in-Err-BadInitial-clause-words g c =
+    let m = machine_of c.args.model.now in
+    let sources = c.args.sources.now in
+    let words = left c.args.words.now in
+    let stop : Stop = BadInitial c.in-Err-BadInitial.slot c.in-Err-BadInitial.value in
+    let begins : initial m ≡ Err stop = subst (λ e. Prevents e (initial m)) c.in-Err-BadInitial.field-0-is c.in-Err-BadInitial.ensures.begins in
+    sym (ap (λ (o : Result State Stop). (begun m sources words o (λ s. finished (from_start m sources c.args.budget (acts_of c.args.play.now) (first_point s words)))).words) begins)

@@ -12,7 +12,7 @@ use Rattle.avalla_command.specs.Acts.{acts_of}
 use Rattle.avalla_play.specs.Moves.{Move, Point, all_acted}
 use Rattle.avalla_play.specs.Printed.{finished, first_point}
 use Rattle.avalla_play.specs.Standing.{told}
-use Rattle.avalla_play.proofs.Beginning.{end-stopped, none-broken, rest-stopped, start-cut, start-ends, start_end, start_rest}
+use Rattle.avalla_play.proofs.Beginning.{end-stopped, none-broken, rest-stopped, start-cut, start-ends, start-leaves, start_end, start_rest, start_words, words-stopped}
 use Rattle.avalla_play.proofs.Writing.{first-stopped, from_ok, then-last}
 use Rattle.avalla_play.proofs.playing.play_from.Goals as goal
 
@@ -85,3 +85,27 @@ returns-clause-end g c =
     let at : Input → Move = λ i. more (record { number = 0; state = c.args.session.state; input = i; words = left c.args.words.now; checks = 0 }) in
     let same = start-ends m sources q more first b ∙ ap (start_end m sources q more) none ∙ ap (λ i. (finished (at i)).end) (sym c.new.ensures) in
     from_ok c.play_on.result (λ (e : Played). e ≡ (finished (at c.new.result)).end) _ (λ e is. is ∙ sym same) c.play_on.ensures.end
+
+pub returns-in-Some-clause-words : goal.returns-in-Some-clause-words
+returns-in-Some-clause-words g c =
+    let m = machine_of c.args.context.now.model.now in
+    let sources = c.args.context.now.sources.now in
+    let b : Option ℕ = broken m c.args.session.state in
+    let q : Point = first_point c.args.session.state (left c.args.words.now) in
+    let more : Point → Move = all_acted m sources c.args.context.now.budget (acts_of c.args.commands.now) in
+    let first = numbered_state m 0 c.args.session.state in
+    let ends = sym c.in_ok-end.ensures.end ∙ c.in-Some.is in
+    words-stopped m sources q more b c.in-Some.end ends ∙ sym (start-leaves m sources q more first b)
+
+pub returns-clause-words : goal.returns-clause-words
+returns-clause-words g c =
+    let m = machine_of c.args.context.now.model.now in
+    let sources = c.args.context.now.sources.now in
+    let b : Option ℕ = broken m c.args.session.state in
+    let q : Point = first_point c.args.session.state (left c.args.words.now) in
+    let more : Point → Move = all_acted m sources c.args.context.now.budget (acts_of c.args.commands.now) in
+    let first = numbered_state m 0 c.args.session.state in
+    let none = none-broken b (sym c.in_ok-end.ensures.end ∙ c.in-None.is) in
+    let at : Input → Move = λ i. more (record { number = 0; state = c.args.session.state; input = i; words = left c.args.words.now; checks = 0 }) in
+    let same = start-leaves m sources q more first b ∙ ap (start_words m sources q more) none ∙ ap (λ i. (finished (at i)).words) (sym c.new.ensures) in
+    from_ok c.play_on.result (λ (e : Played). left c.play_on.new.words ≡ (finished (at c.new.result)).words) _ (λ e is. is ∙ sym same) c.play_on.ensures.words

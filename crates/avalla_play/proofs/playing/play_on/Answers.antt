@@ -56,3 +56,17 @@ returns-in_ok-tell_passed-in-None-clause-end g c =
     let move : Move = all_acted m c.args.context.now.sources.now c.args.context.now.budget (acts_of c.args.commands.now) (point_of c.args.stage.now (left c.args.words.now)) in
     let reached = lands-none m c.act_all.new.stage (left c.act_all.new.words) move.to c.in_ok-end.field-0 c.in-None.is c.in_ok-end.ensures.lands in
     sym (ap (λ to. (passed_unless move.text to).end) reached.leads)
+
+pub returns-in-Some-clause-words : goal.returns-in-Some-clause-words
+returns-in-Some-clause-words g c =
+    let m = machine_of c.args.context.now.model.now in
+    let move : Move = all_acted m c.args.context.now.sources.now c.args.context.now.budget (acts_of c.args.commands.now) (point_of c.args.stage.now (left c.args.words.now)) in
+    let ended = lands-some m c.act_all.new.stage (left c.act_all.new.words) move.to c.in_ok-end.field-0 c.in-Some.end c.in-Some.is c.in_ok-end.ensures.lands in
+    sym (ap (λ to. (passed_unless move.text to).words) ended)
+
+pub returns-in_ok-tell_passed-in-None-clause-words : goal.returns-in_ok-tell_passed-in-None-clause-words
+returns-in_ok-tell_passed-in-None-clause-words g c =
+    let m = machine_of c.args.context.now.model.now in
+    let move : Move = all_acted m c.args.context.now.sources.now c.args.context.now.budget (acts_of c.args.commands.now) (point_of c.args.stage.now (left c.args.words.now)) in
+    let reached = lands-none m c.act_all.new.stage (left c.act_all.new.words) move.to c.in_ok-end.field-0 c.in-None.is c.in_ok-end.ensures.lands in
+    sym (ap (λ to. (passed_unless move.text to).words) reached.leads)

@@ -8,6 +8,7 @@ use Rattle.asm_node.specs.Step.{IsInput, broken, next}
 use Rattle.asm_node.specs.WellFormed.{IsRule}
 use Rattle.asm_node.specs.Words.{left}
 use Rattle.asm_run.specs.Printed.{numbered_state}
+use Rattle.asm_run.specs.Reached.{landed}
 use Rattle.asm_run.proofs.Runs.{goes-none, goes-some}
 use Rattle.avalla_play.specs.declared.playing.Played.TheVariants.{Stopped}
 use Rattle.avalla_play.specs.declared.stage.Stage.{Stage}
@@ -42,7 +43,9 @@ returns-in-Some-clause-lands g c =
     let rule : Option Rule = option_map (λ r. plain_rule r.value) (option_copied c.args.rule) in
     let from : Result (State × List ℕ) Stop = next s.session.machine s.session.state s.input (left c.args.words.now) (unwrap_or rule s.session.machine.main) in
     let stops = next-by m s.session.machine s.session.state s.input (left c.args.words.now) rule (Err c.in-Some.stop) c.requires.ready.machine (goes-some c.in_ok-stop.field-0 c.in-Some.stop c.go_on.new.session.state (left c.go_on.new.words) from c.in-Some.is c.in_ok-stop.ensures.goes) in
-    lands-stop m (record s { session = c.go_on.new.session }) (left c.go_on.new.words) (Stopped c.in-Some.stop) _ c.stop_by.result c.stop_by.ensures.end (ap (λ o. (moved m c.args.context.now.sources.now p o).to) stops)
+    let kept : left c.go_on.new.words ≡ left c.args.words.now = ap (λ (q : State × List ℕ). q.1) (c.in_ok-stop.ensures.lands ∙ ap (landed (s.session.state, left c.args.words.now)) (goes-some c.in_ok-stop.field-0 c.in-Some.stop c.go_on.new.session.state (left c.go_on.new.words) from c.in-Some.is c.in_ok-stop.ensures.goes)) in
+    lands-stop m (record s { session = c.go_on.new.session }) (left c.go_on.new.words) (Stopped c.in-Some.stop) _ c.stop_by.result c.stop_by.ensures.end
+    (ap (λ o. (moved m c.args.context.now.sources.now p o).to) stops ∙ ap (λ (ws : List ℕ). Err (record { end = Stopped c.in-Some.stop; words = ws })) (sym kept))
 
 pub tell_state-requires-clause-machine : goal.tell_state-requires-clause-machine
 tell_state-requires-clause-machine g c = ap (λ (s : Stage). s.session.machine) c.in_ok-settle-in-None.ensures ∙ c.in_ok-stop.ensures.machine ∙ c.requires.ready.machine

@@ -23,6 +23,7 @@ turns-init g c =
       ready = c.requires.ready;
       printed = rw all (front_none g.K.Sink.written g.K.Sink.faults c.args.sink.now (whole budget).text);
       same_end = ap (λ n. (whole n).to) all;
+      same_words = refl;
       same_checks = refl;
     }
 
@@ -84,6 +85,7 @@ turns-preserved g c =
       ready = turn.ready;
       printed = went_on g.K.Sink.written g.K.Sink.faults _ _ _ _ _ _ _ _ cut c.turns.invariant.printed c.in_ok-end.ensures.writes;
       same_end = sym (ap (λ (z : Move). z.to) next ∙ ap (λ n. (steps_until m sources budget t n (point_of new rest)).to) less) ∙ c.turns.invariant.same_end;
+      same_words = c.in_ok-end.ensures.same_words ∙ c.turns.invariant.same_words;
       same_checks = c.in_ok-end.ensures.checks ∙ c.turns.invariant.same_checks;
     }
 

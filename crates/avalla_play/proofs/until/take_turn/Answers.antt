@@ -48,7 +48,7 @@ returns-in-Some-clause-turns g c =
     let t = plain c.args.condition.now.value in
     let q : Point = point_of c.args.stage.now (left c.args.words.now) in
     let ended = lands-some m c.make_step.new.stage (left c.make_step.new.words) (step m sources m.main q).to c.in_ok-end-in-Unmet.field-0 c.in-Some.end c.in-Some.is c.in_ok-end-in-Unmet.ensures.lands in
-    record { comes_to = turn-unmet m sources t q (c.in_ok-judge.ensures ∙ ap said c.in-Unmet.is) (Err c.in-Some.end) ended; ready = tt }
+    record { comes_to = turn-unmet m sources t q (c.in_ok-judge.ensures ∙ ap said c.in-Unmet.is) (Err (record { end = c.in-Some.end; words = left c.make_step.new.words })) ended; ready = tt }
 
 pub returns-in-None-clause-writes : goal.returns-in-None-clause-writes
 returns-in-None-clause-writes g c =

@@ -22,21 +22,21 @@ pub returns-in-Met-clause-writes : goal.returns-in-Met-clause-writes
 returns-in-Met-clause-writes g c = λ words.
     let m = machine_of c.args.context.now.model.now in
     let q = point_of c.args.stage.now words in
-    let is = judged-is m c.args.context.now.sources.now (worth m (plain c.args.condition.now.value) q) (Gives true) (λ holds. if holds then stays q else spent c.args.context.now.budget) (c.in_ok-judge.ensures ∙ ap said c.in-Met.is) in
+    let is = judged-is m c.args.context.now.sources.now q.words (worth m (plain c.args.condition.now.value) q) (Gives true) (λ holds. if holds then stays q else spent c.args.context.now.budget q.words) (c.in_ok-judge.ensures ∙ ap said c.in-Met.is) in
     none-written g.K.Sink.written g.K.Sink.faults c.args.sink.now _ _ (ap (λ (z : Move). z.text) is)
 
 pub returns-in-Met-clause-lands : goal.returns-in-Met-clause-lands
 returns-in-Met-clause-lands g c = λ words.
     let m = machine_of c.args.context.now.model.now in
     let q = point_of c.args.stage.now words in
-    let is = judged-is m c.args.context.now.sources.now (worth m (plain c.args.condition.now.value) q) (Gives true) (λ holds. if holds then stays q else spent c.args.context.now.budget) (c.in_ok-judge.ensures ∙ ap said c.in-Met.is) in
+    let is = judged-is m c.args.context.now.sources.now q.words (worth m (plain c.args.condition.now.value) q) (Gives true) (λ holds. if holds then stays q else spent c.args.context.now.budget q.words) (c.in_ok-judge.ensures ∙ ap said c.in-Met.is) in
     record { leads = ap (λ (z : Move). z.to) is; ready = c.requires.ready }
 
 pub returns-in_err-tell_budget-in-Unmet-clause-writes : goal.returns-in_err-tell_budget-in-Unmet-clause-writes
 returns-in_err-tell_budget-in-Unmet-clause-writes g c = λ words.
     let m = machine_of c.args.context.now.model.now in
     let q = point_of c.args.stage.now words in
-    let is = judged-is m c.args.context.now.sources.now (worth m (plain c.args.condition.now.value) q) (Gives false) (λ holds. if holds then stays q else spent c.args.context.now.budget) (c.in_ok-judge.ensures ∙ ap said c.in-Unmet.is) in
+    let is = judged-is m c.args.context.now.sources.now q.words (worth m (plain c.args.condition.now.value) q) (Gives false) (λ holds. if holds then stays q else spent c.args.context.now.budget q.words) (c.in_ok-judge.ensures ∙ ap said c.in-Unmet.is) in
     let p = err_from_is_err_and c.from_residual-in_err-tell_budget-in-Unmet.result c.from_residual-in_err-tell_budget-in-Unmet.ensures.1 in
     rw (p.1, p.2) (one-stopped g.K.Sink.written g.K.Sink.faults c.args.sink.now c.tell_budget.new.sink _ _ _ (sym (ap (λ (z : Move). z.text) is)) c.in_err-tell_budget-in-Unmet.ensures)
 
@@ -44,20 +44,20 @@ pub returns-in_ok-tell_budget-in-Unmet-clause-writes : goal.returns-in_ok-tell_b
 returns-in_ok-tell_budget-in-Unmet-clause-writes g c = λ words.
     let m = machine_of c.args.context.now.model.now in
     let q = point_of c.args.stage.now words in
-    let is = judged-is m c.args.context.now.sources.now (worth m (plain c.args.condition.now.value) q) (Gives false) (λ holds. if holds then stays q else spent c.args.context.now.budget) (c.in_ok-judge.ensures ∙ ap said c.in-Unmet.is) in
+    let is = judged-is m c.args.context.now.sources.now q.words (worth m (plain c.args.condition.now.value) q) (Gives false) (λ holds. if holds then stays q else spent c.args.context.now.budget q.words) (c.in_ok-judge.ensures ∙ ap said c.in-Unmet.is) in
     one-written g.K.Sink.written g.K.Sink.faults c.args.sink.now c.tell_budget.new.sink _ _ _ _ (ap (λ (z : Move). z.text) is) c.in_ok-tell_budget-in-Unmet.ensures
 
 pub returns-in_ok-tell_budget-in-Unmet-clause-lands : goal.returns-in_ok-tell_budget-in-Unmet-clause-lands
 returns-in_ok-tell_budget-in-Unmet-clause-lands g c = λ words.
     let m = machine_of c.args.context.now.model.now in
     let q = point_of c.args.stage.now words in
-    ap (λ (z : Move). z.to) (judged-is m c.args.context.now.sources.now (worth m (plain c.args.condition.now.value) q) (Gives false) (λ holds. if holds then stays q else spent c.args.context.now.budget) (c.in_ok-judge.ensures ∙ ap said c.in-Unmet.is))
+    ap (λ (z : Move). z.to) (judged-is m c.args.context.now.sources.now q.words (worth m (plain c.args.condition.now.value) q) (Gives false) (λ holds. if holds then stays q else spent c.args.context.now.budget q.words) (c.in_ok-judge.ensures ∙ ap said c.in-Unmet.is))
 
 pub returns-in-Lacks-clause-writes : goal.returns-in-Lacks-clause-writes
 returns-in-Lacks-clause-writes g c = λ words.
     let m = machine_of c.args.context.now.model.now in
     let q = point_of c.args.stage.now words in
-    let is = judged-is m c.args.context.now.sources.now (worth m (plain c.args.condition.now.value) q) (Needs c.in-Lacks.slot) (λ holds. if holds then stays q else spent c.args.context.now.budget) (c.in_ok-judge.ensures ∙ ap said c.in-Lacks.is) in
+    let is = judged-is m c.args.context.now.sources.now q.words (worth m (plain c.args.condition.now.value) q) (Needs c.in-Lacks.slot) (λ holds. if holds then stays q else spent c.args.context.now.budget q.words) (c.in_ok-judge.ensures ∙ ap said c.in-Lacks.is) in
     same-text g.K.Sink.written g.K.Sink.faults c.args.sink.now c.stop_by.new.sink _ _ c.stop_by.result (sym (ap (λ (z : Move). z.text) is)) c.stop_by.ensures.writes
 
 pub returns-in-Lacks-clause-lands : goal.returns-in-Lacks-clause-lands
@@ -70,5 +70,5 @@ returns-in-Lacks-clause-lands g c =
     let lacks = c.in_ok-judge.ensures ∙ ap said c.in-Lacks.is in
     from_ok c.stop_by.result (λ end. end ≡ Some (Stopped (Input c.in-Lacks.slot))) (λ end. (words : List ℕ) → Lands end m s words (steps_until m sources budget t 0 (point_of s words)).to)
     (λ end is words. subst (λ z. Lands z m s words (steps_until m sources budget t 0 (point_of s words)).to) (sym is)
-    (ap (λ (z : Move). z.to) (judged-is m sources (worth m t (point_of s words)) (Needs c.in-Lacks.slot) (λ holds. if holds then stays (point_of s words) else spent budget) lacks)))
+    (ap (λ (z : Move). z.to) (judged-is m sources words (worth m t (point_of s words)) (Needs c.in-Lacks.slot) (λ holds. if holds then stays (point_of s words) else spent budget words) lacks)))
     c.stop_by.ensures.end

@@ -57,9 +57,10 @@ fn begin(alloc: Global, formula: &Formula, budget: u64) -> Result<Walk, AllocErr
 
 /// Looks for an assignment of the circuit's formula, and counts at most `budget` conflicts.
 ///
-/// It decides the groups in an order that is chosen at the start (`ordered`), the literals of a group in their order, and
+/// It decides those groups first whose literals stand in the most clauses on average, as the formula is at the start, and
+/// where that is the same, in the order in which they were made. It takes the literals of a group in their order, and
 /// propagates after each decision. From a conflict it learns a line, goes back to the deepest decision that the line
-/// speaks of, and makes that decision false by the line.
+/// speaks of, and makes that decision false by the line. It calls itself for nothing.
 pub fn search(alloc: Global, circuit: &Circuit, budget: u64) -> Result<Found, AllocError>
     ensures { IfOk result (λ f. Finds circuit.now budget f) }
 {

@@ -34,3 +34,14 @@ fn spends_a_budget_of_none(rt: HostRuntime) -> Result<(), Fail> {
     assert!(rt; matches!(search(rt.alloc(), &circuit, 0)?, Found::Spent(_)));
     Ok(())
 }
+
+#[test]
+fn solves_64000_groups(rt: HostRuntime) -> Result<(), Fail> {
+    let mut builder = Builder::new(rt.alloc());
+    for _ in 0..64000 {
+        builder.group(2)?;
+    }
+    let circuit = builder.finish();
+    assert!(rt; matches!(search(rt.alloc(), &circuit, 0)?, Found::Solved(_)));
+    Ok(())
+}

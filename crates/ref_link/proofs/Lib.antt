@@ -1,3 +1,4 @@
+pub mod Examples
 mod Alike
 mod Begun
 mod Covering

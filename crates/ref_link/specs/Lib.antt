@@ -1,4 +1,5 @@
 pub mod Answering
+pub mod Counter
 pub mod Linkable
 pub mod Linked
 pub mod Linking

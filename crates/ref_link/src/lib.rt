@@ -12,4 +12,4 @@ mod side;
 pub use error::LinkError;
 pub use link::{Link, Links};
 pub use linking::{default_links, links};
-pub use refining_law::answered_steps_refine;
+pub use refining_law::{answered_steps_refine, no_counter_steps};

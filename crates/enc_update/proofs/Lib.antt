@@ -1,3 +1,4 @@
+pub mod Agreeing
 pub mod Clashes
 pub mod Consistency
 pub mod Entries

@@ -1,6 +1,7 @@
 //! What rules give as pairs with literals, and their union, guards and clashes as gates.
 #![tactic(auto)]
 
+mod agreement;
 mod clash;
 mod guarded;
 mod laws;
@@ -8,6 +9,7 @@ mod pair;
 mod slots;
 mod union;
 
+pub use agreement::no_clash;
 pub use clash::two_of;
 pub use guarded::{guarded_updates, pairs_under};
 pub use laws::{clashes_are_told, consistent_sets_are_written};

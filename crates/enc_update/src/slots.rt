@@ -59,7 +59,8 @@ pub fn by_slot(alloc: Global, count: usize, pairs: &[Pair]) -> Result<Vec<ValueG
     Ok(groups)
 }
 
-fn push_lit(lits: &mut Vec<Lit>, lit: Lit) -> Result<(), AllocError>
+/// Adds a literal at the end.
+pub fn push_lit(lits: &mut Vec<Lit>, lit: Lit) -> Result<(), AllocError>
     ensures { OnOk result (lits.new.items ≡ lits.old.items ++ lit ∷ []) }
 {
     lits.push(lit)?;

@@ -8,16 +8,9 @@ ghost use Rattle.enc_group.specs.Group.{Holds};
 ghost use Rattle.enc_update.specs.Updates.{Taken, Takes, TakesEach, faults_of, pairs_of, union_of};
 
 use crate::pair::{Pairs, UpdateBits};
-use cnf_base::Lit;
+use crate::slots::push_lit;
 use cnf_gate::{Builder, GateError};
-use std::alloc::{AllocError, Global};
-
-fn push_lit(lits: &mut Vec<Lit>, lit: Lit) -> Result<(), AllocError>
-    ensures { OnOk result (lits.new.items ≡ lits.old.items ++ lit ∷ []) }
-{
-    lits.push(lit)?;
-    Ok(())
-}
+use std::alloc::Global;
 
 /// The union of what rules give in one state, each of which may end in a fault. It adds one gate, of all faults.
 pub fn all_updates(

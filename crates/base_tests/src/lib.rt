@@ -8,4 +8,6 @@ mod names;
 #[cfg(test)]
 mod outside;
 #[cfg(test)]
+mod rings;
+#[cfg(test)]
 mod sources;

@@ -46,7 +46,7 @@ behind : (n : ℕ) (t : List ℕ) (ts : List (List ℕ)) → t ++ rest_from (suc
 behind n t [] = append-nil t
 behind n t (u ∷ us) = ap (λ z. t ++ 44 ∷ z) (behind (suc n) u us) ∙ sym (append_assoc t (codes ",") (with_commas (u ∷ us)))
 
-all_from : (ts : List (List ℕ)) → rest_from 0 ts ≡ with_commas ts
+pub all_from : (ts : List (List ℕ)) → rest_from 0 ts ≡ with_commas ts
 all_from [] = refl
 all_from (t ∷ ts) = behind 0 t ts
 

@@ -7,7 +7,7 @@ mod state;
 mod stop;
 mod value;
 
-pub use location::print_location;
+pub use location::{function_name, print_call, print_location};
 pub use place::print_place;
 pub use state::print_state;
 pub use stop::print_stop;

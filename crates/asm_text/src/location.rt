@@ -20,8 +20,8 @@ pub fn print_location(signature: &Signature, slot: u32, out: &mut Text) -> Resul
     print_call(signature, function, arguments.as_slice(), out)
 }
 
-/// Appends a function's name and its arguments.
-fn print_call(
+/// Appends a function's name and its arguments: `f`, or `f(v,w)` without blanks.
+pub fn print_call(
     signature: &Signature,
     function: u32,
     arguments: &[Value],
@@ -34,7 +34,7 @@ fn print_call(
 }
 
 /// The name of the function of this number, and nothing where there is none.
-fn function_name(signature: &Signature, number: u32) -> &str
+pub fn function_name(signature: &Signature, number: u32) -> &str
     ensures { result.now ≡ spec.function_name signature.now number }
 {
     match signature.functions().item(number as usize) {

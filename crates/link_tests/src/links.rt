@@ -11,7 +11,7 @@ use std::alloc::{AllocError, Global};
 use std::test::Fail;
 
 // Its functions have the numbers colour 0, go 1, top 2, low 3, hot 4, at 5, sum 6.
-const ABSTRACT: &str = "asm m
+pub const ABSTRACT: &str = "asm m
 signature:
   enum domain Colour = {RED | GREEN}
   enum domain Spot = {HERE | THERE}
@@ -32,7 +32,7 @@ main rule r_Main = skip
 default init s0:";
 
 // Its functions have the numbers colour 0, shade 1, go 2, left 3, at 4, by 5, low 6.
-const CONCRETE: &str = "asm m
+pub const CONCRETE: &str = "asm m
 signature:
   enum domain Colour = {RED | GREEN}
   enum domain Shade = {DARK | PALE}
@@ -61,7 +61,7 @@ main rule r_Main = skip
 default init s0:";
 
 // The model of a file of this text, if it is one.
-fn model_of(alloc: Global, text: &str) -> Option<Model> {
+pub fn model_of(alloc: Global, text: &str) -> Option<Model> {
     let mut shelf = NoFaultShelf::new(alloc);
     if shelf.add(alloc, "m.asm", text.as_bytes()).is_err() {
         return None;

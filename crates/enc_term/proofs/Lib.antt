@@ -1,4 +1,7 @@
 pub mod Branches
+pub mod CanClosing
+pub mod Cycles
 pub mod Guarding
 pub mod Members
+pub mod Shapes
 pub mod Standing

@@ -1,8 +1,9 @@
 -- What is in lists that are made of others.
-use Rattle.std.proofs.Common.{◌≡◌, ℕ, zero, suc, ◌<◌, Bool, true, false, not, cond, List, [], ◌∷◌, ◌++◌, length, map, filter, get_or, arith, refl, sym, ap, subst, ◌⊎◌, inl, inr}
+use Rattle.std.proofs.Common.{◌≡◌, ◌∙◌, true≢false, ℕ, zero, suc, ◌<◌, Bool, true, false, not, cond, List, [], ◌∷◌, ◌++◌, length, map, filter, get_or, arith, refl, sym, ap, subst, ◌⊎◌, inl, inr}
 use Rattle.std.specs.List.{flat_map}
 use Rattle.asm_domain.specs.declared.value.Value.{Value}
 use Rattle.asm_node.specs.Values.{same}
+use Rattle.asm_node.proofs.UpdateSets.{same_is}
 use Rattle.asm_sign.specs.Tuples.{tuples}
 use Rattle.enc_group.specs.declared.group.Entry.{Entry}
 use Rattle.enc_group.specs.Group.{once, values_in}
@@ -65,6 +66,24 @@ pub once_has : (xs : List Value) (x : Value) → Has (once xs) x → Has xs x
 once_has [] x h = elim h [ ]
 once_has (y ∷ xs) x (inl is) = inl is
 once_has (y ∷ xs) x (inr h) = inr (once_has xs x (filtered (λ z. not (same y z)) (once xs) x h))
+
+kept : (p : Value → Bool) (xs : List Value) (x : Value) → p x ≡ true → Has xs x → Has (filter p xs) x
+kept p [] x pass h = elim h [ ]
+kept p (y ∷ xs) x pass h =
+    elim (p y) as (λ b. p y ≡ b → Has (cond b (y ∷ filter p xs) (filter p xs)) x) [
+      | true ↦ λ _. elim h as (λ _. Has (y ∷ filter p xs) x) [ inl is ↦ inl is | inr k ↦ inr (kept p xs x pass k) ]
+      | false ↦ λ e. elim h as (λ _. Has (filter p xs) x) [ inl is ↦ absurd (true≢false (sym pass ∙ ap p (sym is) ∙ e)) | inr k ↦ kept p xs x pass k ]
+    ] refl
+
+-- what stands there stands once
+pub has_in_once : (xs : List Value) (x : Value) → Has xs x → Has (once xs) x
+has_in_once [] x h = elim h [ ]
+has_in_once (y ∷ xs) x (inl is) = inl is
+has_in_once (y ∷ xs) x (inr h) =
+    elim (same y x) as (λ b. same y x ≡ b → Has (y ∷ filter (λ z. not (same y z)) (once xs)) x) [
+      | true ↦ λ e. inl (same_is y x e)
+      | false ↦ λ e. inr (kept (λ z. not (same y z)) (once xs) x (ap not e) (has_in_once xs x h))
+    ] refl
 
 -- a value of the first groups is one of some of them
 pub before_has : (gs : List (List Entry)) (n : ℕ) (x : Value) → Has (values_before gs n) x → (j : ℕ) × (j < n) × Has (values_in (group_at gs j)) x

@@ -55,7 +55,7 @@ module _ (v : ℕ → Bool) (m : Machine) (bits : Bits) (n : ℕ) (w : World) (s
 
 -- ---- the values of the group
 
-any_has : {A : Type 0} (p : A → Bool) (xs : List A) (x : A) → Has xs x → p x ≡ true → list_any p xs ≡ true
+pub any_has : {A : Type 0} (p : A → Bool) (xs : List A) (x : A) → Has xs x → p x ≡ true → list_any p xs ≡ true
 any_has p [] x h t = elim h [ ]
 any_has p (y ∷ xs) x (inl is) t = ap (λ b. b || list_any p xs) (ap p is ∙ t)
 any_has p (y ∷ xs) x (inr h) t = or_true (p y) (list_any p xs) (any_has p xs x h t)

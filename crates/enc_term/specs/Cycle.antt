@@ -2,6 +2,7 @@
 use Rattle.std.specs.Prelude.{◌≡◌, ℕ, ◌<◌, ◌≤◌, Bool, true, List, length, get_or}
 use Rattle.asm_domain.specs.declared.value.Value.{Value}
 use Rattle.asm_node.specs.Machine.{Machine}
+use Rattle.asm_node.specs.Model.{machine_of}
 use Rattle.asm_node.specs.Term.{World, Outcome}
 use Rattle.cnf_gate.specs.Built.{Built}
 use Rattle.enc_group.specs.declared.group.Entry.{Entry}
@@ -10,7 +11,8 @@ use Rattle.enc_group.specs.Group.{Holds, Means, values_in, are_distinct, group_v
 use Rattle.enc_group.specs.Tuple.{MeansAll, tuples_in, tuple_variables}
 use Rattle.enc_group.specs.Binding.{group_at}
 use Rattle.enc_term.specs.declared.bits.Bits.{Bits}
-use Rattle.enc_term.specs.Bits.{Stands}
+use Rattle.enc_term.specs.declared.bits.Context.{Context}
+use Rattle.enc_term.specs.Bits.{Stands, AreBits}
 use Rattle.enc_term.specs.Can.{Has, AreAmong, ArePicked}
 
 -- in each assignment of the builder, and each world that it stands for, the group means this outcome
@@ -37,3 +39,21 @@ pub record TellsEach {K : Type 0} (b : Built) (m : Machine) (bits : Bits) (n : �
   pub means : (j : ℕ) (k : K) → j < count → k ≡ get_or keys j k → Tells b m bits n (group_at gs j) (o k)
   pub groups : (j : ℕ) (k : K) → j < count → k ≡ get_or keys j k → IsGroupOf b (can k) (group_at gs j)
   pub within : (j : ℕ) → group_variables (group_at gs j) ≤ b.count
+
+-- the model in which terms are encoded
+abbrev pub machine_at : Context → Machine
+machine_at context = machine_of context.model.now
+
+-- the bits that terms are encoded over are of the builder
+abbrev pub IsReady : Built → Context → Type 0
+IsReady b context = AreBits b (machine_at context) context.bits.now context.version
+
+-- what groups and tuples mean where terms are encoded
+abbrev pub TellsIn : Built → Context → List Entry → (World → Outcome Value) → Type 0
+TellsIn b context g o = Tells b (machine_at context) context.bits.now context.version g o
+
+abbrev pub TellAllIn : Built → Context → List Tuple → (World → Outcome (List Value)) → Type 0
+TellAllIn b context ts o = TellsAll b (machine_at context) context.bits.now context.version ts o
+
+abbrev pub TellEachIn : {K : Type 0} → Built → Context → List K → List (List Entry) → (K → World → Outcome Value) → (K → List Value) → Type 0
+TellEachIn b context keys gs o can = TellsEach b (machine_at context) context.bits.now context.version keys (length keys) gs o can

@@ -7,6 +7,7 @@ mod forms;
 mod guards;
 mod operating;
 mod reading;
+mod term;
 
 pub use bits::{Bits, Context, Site, Version};
 pub use call::{call_group, inside};
@@ -14,3 +15,4 @@ pub use forms::{choice, get_group, let_group};
 pub use guards::quantify;
 pub use operating::operate;
 pub use reading::read_group;
+pub use term::{term_group, term_tuples};

@@ -1,7 +1,7 @@
 -- A term with closed terms in the places of its variables may have what the term may have, and stays small where it does.
-use Rattle.std.proofs.Common.{◌≡◌, ℕ, zero, suc, true, false, if◌then◌else◌, List, [], ◌∷◌, map, length, nat_eq, slice_get, T, eqb→eq, refl, sym, ap, ◌∙◌, subst, ◌⊎◌, inl, inr, arith}
+use Rattle.std.proofs.Common.{◌≡◌, ℕ, true, false, if◌then◌else◌, List, [], ◌∷◌, map, length, nat_eq, slice_get, T, eqb→eq, refl, sym, ap, ◌∙◌, subst, ◌⊎◌, inl, inr, arith}
 use Rattle.std.specs.Bool.{⊤}
-use Rattle.std.specs.Prelude.{MatchBool, Contains}
+use Rattle.std.specs.Prelude.{MatchBool}
 use Rattle.std.specs.List.{flat_map}
 use Rattle.std.specs.FinMap as finite
 use Rattle.asm_domain.specs.declared.value.Value.{Value}
@@ -11,7 +11,7 @@ use Rattle.asm_node.specs.declared.term.Binder.{Binder}
 use Rattle.asm_node.specs.Tree.{Tree, Const, Var, Within, Get, Oper, Cond, Let, Quant, Trees, none, more}
 use Rattle.asm_node.specs.Values.{result_of, within}
 use Rattle.asm_node.specs.Machine.{Machine, no_input, tuples_of}
-use Rattle.asm_node.specs.Term.{World, branch, Places, nowhere, put, keep, close, close_all}
+use Rattle.asm_node.specs.Term.{branch, Places, nowhere, put, keep, close, close_all}
 use Rattle.asm_node.specs.Exact.{Each, but, but_all, nothing, OfCalls}
 use Rattle.asm_node.proofs.Closed.{IsClosed}
 use Rattle.asm_node.proofs.Closing.{HaveLength, tuples-length}

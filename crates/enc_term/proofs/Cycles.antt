@@ -1,5 +1,5 @@
 -- What the groups of parts tell of a term.
-use Rattle.std.proofs.Common.{true≢false, ◌≡◌, ◌≤◌, ◌<◌, ◌+◌, ◌-◌, ℕ, zero, suc, Bool, true, false, not, ◌||◌, if◌then◌else◌, List, [], ◌∷◌, ◌++◌, length, map, take, arith, refl, sym, ap, subst, get_or, ◌∙◌, inl, inr, Option, Some, None, slice_get}
+use Rattle.std.proofs.Common.{true≢false, ◌≡◌, ◌≤◌, ◌<◌, ◌+◌, ℕ, zero, suc, Bool, true, false, not, ◌||◌, if◌then◌else◌, List, [], ◌∷◌, ◌++◌, length, map, take, arith, refl, sym, ap, subst, get_or, ◌∙◌, inl, inr, Some, None, slice_get}
 use Rattle.std.specs.List.{flat_map, list_any}
 use Rattle.std.specs.declared.rc.Rc.{Rc}
 use Rattle.std.specs.declared.alloc.Global.{Global}
@@ -9,27 +9,27 @@ use Rattle.asm_domain.specs.declared.value.Value.TheVariants.{Undef, Bool as Tru
 use Rattle.asm_sign.specs.Tuples.{tuples}
 use Rattle.asm_node.specs.declared.term.Binder.{Binder}
 use Rattle.asm_node.specs.declared.term.Term.{Term}
-use Rattle.asm_node.specs.Tree.{Tree, Trees, Const, Oper, none, more, plain, plain_all}
-use Rattle.asm_node.specs.Values.{result_of, is_truth, are_arguments}
+use Rattle.asm_node.specs.Tree.{Tree, Const, plain, plain_all}
+use Rattle.asm_node.specs.Values.{is_truth, are_arguments}
 use Rattle.asm_sign.specs.declared.function.Function.{Function}
 use Rattle.asm_sign.specs.Kind.{is_dynamic, is_kept}
 use Rattle.asm_node.specs.Exact.{Each, OfCalls}
-use Rattle.asm_node.specs.Machine.{Machine, Definition, definition_of, constant_of, slot_at, tuples_of}
+use Rattle.asm_node.specs.Machine.{Machine, Definition, definition_of, constant_of, slot_at}
 use Rattle.asm_node.specs.Term.{World, Outcome, Gives, Needs, and_then, branch, Places, put, put_tuple, Calls, Reads, value_of, values_of, calls_within, value_at_last, undefined_value, value_of_function, defined_value, read, state_value, input_value}
 use Rattle.enc_group.specs.declared.group.Entry.{Entry}
 use Rattle.enc_group.specs.declared.tuple.Tuple.{Tuple}
-use Rattle.enc_group.specs.Group.{Holds, values_in, once, are_distinct, group_variables}
+use Rattle.enc_group.specs.Group.{values_in, once, are_distinct, group_variables}
 use Rattle.enc_group.specs.Tuple.{tuples_in, tuple_variables, products}
 use Rattle.enc_group.specs.Binding.{group_at, values_before}
 use Rattle.enc_group.proofs.Onces.{once_distinct}
 use Rattle.enc_group.proofs.Groups.{one_more}
 use Rattle.enc_term.specs.declared.bits.Bits.{Bits}
-use Rattle.enc_term.specs.Bits.{Stands, AreBits}
+use Rattle.enc_term.specs.Bits.{AreBits}
 use Rattle.enc_term.specs.Can.{Cans, CallCans, Has, AreAmong, ArePicked, undef_if, quantified_can, with_can, with_cans, can_by, cans_by, can_in, calls_can, cans_in, can_at_last, last_can, function_can, defined_can, read_can, dynamic_can, called_can}
 use Rattle.enc_term.specs.Small.{StaysSmall, StayAllSmall}
-use Rattle.enc_term.specs.Cycle.{Tells, TellsAll, TellsEach, IsGroupOf, AreTuplesOf}
+use Rattle.enc_term.specs.Cycle.{Tells, TellsEach, IsGroupOf, AreTuplesOf}
 use Rattle.enc_term.specs.Guards.{is_odd, are_odd, answer_values}
-use Rattle.enc_term.proofs.Members.{has_first, has_second, has_map, map_has, has_flat, flat_has, has_at, once_has, before_has, picked_more, picked_tuple, products_has}
+use Rattle.enc_term.proofs.Members.{has_map, map_has, has_flat, flat_has, has_at, once_has, before_has, picked_more, picked_tuple, products_has}
 use Rattle.enc_term.proofs.Shapes.{cans_put, cans_tuple}
 use Rattle.enc_term.proofs.Standing.{any_has}
 

@@ -1,19 +1,19 @@
 -- What the variables of an environment may have.
-use Rattle.std.proofs.Common.{◌≡◌, ℕ, zero, suc, ◌-◌, ◌<◌, true, false, if◌then◌else◌, List, [], ◌∷◌, map, length, nat_eq, refl, sym, ap, ◌∙◌, subst, inr, arith, Some, Option, slice_get}
+use Rattle.std.proofs.Common.{◌≡◌, ℕ, zero, suc, ◌-◌, ◌<◌, true, false, if◌then◌else◌, List, [], ◌∷◌, map, length, nat_eq, refl, sym, ap, ◌∙◌, subst, inr, arith, Some, slice_get}
 use Rattle.std.specs.Bool.{⊤}
 use Rattle.std.specs.Prelude.{MatchBool}
 use Rattle.asm_domain.specs.declared.value.Value.{Value}
 use Rattle.asm_sign.specs.declared.function.Function.{Function}
 use Rattle.asm_node.specs.declared.term.Binder.{Binder}
 use Rattle.asm_node.specs.Values.{within}
-use Rattle.asm_node.specs.Tree.{Tree, Trees, Const}
+use Rattle.asm_node.specs.Tree.{Tree, Const}
 use Rattle.asm_node.specs.Machine.{Machine, Definition, definition_of}
-use Rattle.asm_node.specs.Term.{Places, put, put_tuple, close, close_all}
+use Rattle.asm_node.specs.Term.{Places, put, put_tuple, close}
 use Rattle.asm_node.specs.Exact.{but, but_all, nothing}
 use Rattle.asm_node.proofs.Closed.{IsClosed}
 use Rattle.asm_eval.specs.World.{parameters_at}
 use Rattle.enc_term.specs.Can.{only_undef, with_can, with_cans, parameters_can, can_by, calls_can, cans_in, can_in, function_can, defined_can}
-use Rattle.enc_term.specs.Small.{StaysSmall, StayAllSmall, small_within, each_in, StaysSmallIn, IsSmallBody}
+use Rattle.enc_term.specs.Small.{StaysSmall, small_within, each_in, StaysSmallIn, IsSmallBody}
 use Rattle.enc_term.proofs.CanClosing.{can_close, small_close, closed_can, closed_small, weaker}
 
 module _ (m : Machine) (n : ℕ) where

@@ -4,5 +4,6 @@ pub mod Cycle
 pub mod Forms
 pub mod Guards
 pub mod Level
+pub mod Ranged
 pub mod Small
 pub mod Weight

@@ -6,6 +6,7 @@ mod call;
 mod forms;
 mod guards;
 mod operating;
+mod range_law;
 mod reading;
 mod term;
 
@@ -14,5 +15,6 @@ pub use call::{call_group, inside};
 pub use forms::{choice, get_group, let_group};
 pub use guards::quantify;
 pub use operating::operate;
+pub use range_law::{ranged_terms_stay_small, terms_stay_in_range};
 pub use reading::read_group;
 pub use term::{term_group, term_tuples};

@@ -2,6 +2,7 @@ pub mod Branches
 pub mod CanClosing
 pub mod Cycles
 pub mod Guarding
+pub mod Literals
 pub mod Members
 pub mod Ranged
 pub mod Shapes

@@ -1,2 +1,4 @@
 pub mod Branching
+pub mod Calling
+pub mod Coming
 pub mod Parts

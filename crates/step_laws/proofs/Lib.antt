@@ -1,3 +1,4 @@
+pub mod Printing
 pub mod Running
 pub mod Started
 pub mod Stepping

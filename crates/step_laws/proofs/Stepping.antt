@@ -71,27 +71,33 @@ module _ (m : Machine) (u : UpdateSet) where
       subst (λ (v : UpdateSet). consistent v ≡ true) (same_items u)
       (consistent_without_clash m.signature (set.items u) (subst (HaveLocations m.signature) (sym (same_items u)) (have_locations m u kept)) (ap (clash m.signature) (same_items u) ∙ none))
 
--- what the main rule gives under words that it takes is fired
-fired_under : (m : Machine) (s : State) (i : Input) (t : State) (words : List ℕ) → IsWellFormed m → (p : Steps m s i t) → outcome by_words (world_at m s i) m.main words ≡ Yields p.updates [] → next m s i words m.main ≡ Ok (t, [])
-fired_under m s i t words formed p gives =
+-- what the main rule gives under words is fired
+fired_under : (m : Machine) (s : State) (i : Input) (t : State) (words rest : List ℕ) → IsWellFormed m → (p : Steps m s i t) → outcome by_words (world_at m s i) m.main words ≡ Yields p.updates rest → next m s i words m.main ≡ Ok (t, rest)
+fired_under m s i t words rest formed p gives =
     ap (ended (world_at m s i)) gives
-    ∙ ap (after (world_at m s i) p.updates []) (no_clash m p.updates (values_differ m formed) p.is_consistent)
+    ∙ ap (after (world_at m s i) p.updates rest) (no_clash m p.updates (values_differ m formed) p.is_consistent)
     ∙ ap (λ (s : State). reached s) p.next_is
   where
     reached : State → Result (State × List ℕ) Stop
-    reached s = Ok (s, [])
+    reached s = Ok (s, rest)
 
--- a step under some choices is the next state under some words, which are all taken
+-- a step under some choices is the next state under some words, of which those that stand behind are left
+pub words_before : (m : Machine) (s : State) (i : Input) (t : State) → IsWellFormed m → Steps m s i t → (words : List ℕ) × ((rest : List ℕ) → next m s i (words ++ rest) m.main ≡ Ok (t, rest))
+words_before m s i t formed p =
+    let k : GivesByWords (world_at m s i) m.main p.updates = by_some_words m s i t p in
+    (k.words, λ rest. fired_under m s i t (k.words ++ rest) rest formed p (k.gives rest))
+
+-- so it is that under these words alone, which are all taken
 pub words_of : (m : Machine) (s : State) (i : Input) (t : State) → IsWellFormed m → Steps m s i t → (words : List ℕ) × (next m s i words m.main ≡ Ok (t, []))
 words_of m s i t formed p =
-    let k : GivesByWords (world_at m s i) m.main p.updates = by_some_words m s i t p in
-    (k.words, fired_under m s i t k.words formed p (ap (outcome by_words (world_at m s i) m.main) (sym (append-nil k.words)) ∙ k.gives []))
+    let k = words_before m s i t formed p in
+    (k.0, ap (λ (words : List ℕ). next m s i words m.main) (sym (append-nil k.0)) ∙ k.1 [])
 
 -- so are those that are drawn for the choices of a step
 pub drawn_lead : (m : Machine) (s : State) (i : Input) (choosing : Choosing) (t : State) (words : List ℕ) → IsWellFormed m → Leads m s i choosing t → DrawsFor (world_at m s i) m.main choosing words → next m s i words m.main ≡ Ok (t, [])
 drawn_lead m s i choosing t words formed leads draws =
     let gives = draws leads.steps.updates (subst (λ (c : Choosing). outcome (by_paths c) (world_at m s i) m.main tt ≡ Yields leads.steps.updates tt) leads.by_choices leads.steps.gives) in
-    fired_under m s i t words formed leads.steps (by_words_too (world_at m s i) m.main leads.steps.updates words [] gives)
+    fired_under m s i t words [] formed leads.steps (by_words_too (world_at m s i) m.main leads.steps.updates words [] gives)
 
 -- the next state under some words, from a state under an input of its model, is a step under some choices
 pub choices_of : (m : Machine) (s : State) (i : Input) (t : State) (words rest : List ℕ) → IsWellFormed m → IsInput m i → IsState m s → next m s i words m.main ≡ Ok (t, rest) → Steps m s i t

@@ -2,3 +2,4 @@ pub mod Branching
 pub mod Calling
 pub mod Coming
 pub mod Parts
+pub mod Writing

@@ -5,8 +5,10 @@ mod cases;
 mod forms;
 mod guards;
 mod laws;
+mod written;
 
 pub use cases::{case_updates, let_updates};
 pub use forms::{forall_updates, par_updates, skip_updates};
 pub use guards::if_updates;
 pub use laws::calls_are_bodies;
+pub use written::write_updates;

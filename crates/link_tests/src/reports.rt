@@ -1,13 +1,8 @@
-ghost use Rattle.ref_report.specs.Reported.{IsOf};
-ghost use Rattle.ref_report.specs.Texts.{linking};
-
 use crate::links::{ABSTRACT, model_of};
-use asm_domain::Value;
-use asm_list::Listed;
 use asm_node::Model;
 use asm_source::Text;
 use ref_link::Link;
-use ref_report::{Difference, LinkedModels, Report, print_links, print_report};
+use ref_report::{LinkedModels, print_links};
 use std::alloc::{AllocError, Global};
 use std::test::Fail;
 
@@ -17,72 +12,39 @@ const COLOURS: [Link; 1] = [Link {
     concrete_function: 0,
 }];
 
-// Whether this is what is printed of a report.
-fn is_printed(
+// Whether these links of a model with itself are printed as is wanted.
+fn are_printed(
     alloc: Global,
-    linked: &LinkedModels<'_>,
-    report: &Report,
+    model: &Model,
+    links: &[Link],
     wanted: &str,
-) -> Result<bool, AllocError>
-    requires { IsOf (linking linked.now) report.now }
-{
-    let mut text = Text::new(alloc);
-    print_report(alloc, linked, report, 100, &mut text)?;
-    Ok(text.slice() == wanted.as_bytes())
-}
-
-// That the first link differs: `RED` and `GREEN` at no argument.
-fn difference(alloc: Global) -> Report {
-    Report::InitialDiffers(Difference {
-        link: 0,
-        arguments: Listed::new(alloc),
-        abstract_value: Value::Elem(1, 0),
-        concrete_value: Value::Elem(1, 1),
-    })
-}
-
-// Whether a model's report of a difference, and of an invariant, is printed as it should be.
-fn reports_are_right(alloc: Global, model: &Model) -> Result<bool, AllocError> {
+) -> Result<bool, AllocError> {
     let linked = LinkedModels {
         abstract_model: model,
         concrete_model: model,
-        links: &COLOURS,
-    };
-    Ok(
-        is_printed(
-            alloc,
-            &linked,
-            &Report::InitialInvariant(2),
-            "link colour = colour\nnot proved: abstract invariant 2 is false initially\n",
-        )? && is_printed(
-            alloc,
-            &linked,
-            &difference(alloc),
-            "link colour = colour\nnot proved: initial states differ at colour: RED and GREEN\n",
-        )?,
-    )
-}
-
-// Whether that there are no links is told.
-fn none_is_told(alloc: Global, model: &Model) -> Result<bool, AllocError> {
-    let linked = LinkedModels {
-        abstract_model: model,
-        concrete_model: model,
-        links: &[],
+        links,
     };
     let mut text = Text::new(alloc);
     print_links(alloc, &linked, &mut text)?;
-    Ok(text.slice() == "no links\n".as_bytes())
+    Ok(text.slice() == wanted.as_bytes())
+}
+
+// Whether a link is printed, and that there is none.
+fn links_are_printed(alloc: Global, model: &Model) -> Result<bool, AllocError> {
+    Ok(
+        are_printed(alloc, model, &COLOURS, "link colour = colour\n")?
+            && are_printed(alloc, model, &[], "no links\n")?,
+    )
 }
 
 #[test]
-fn reports_are_printed(rt: HostRuntime) -> Result<(), Fail> {
+fn a_report_begins_with_links(rt: HostRuntime) -> Result<(), Fail> {
     let alloc = rt.alloc();
     let Some(model) = model_of(alloc, ABSTRACT) else {
         assert!(rt; false);
         return Ok(());
     };
-    let right = reports_are_right(alloc, &model)? && none_is_told(alloc, &model)?;
+    let right = links_are_printed(alloc, &model)?;
     assert!(rt; right);
     Ok(())
 }
